@@ -107,7 +107,7 @@ module _ (pairs : List Pair) (n : List ℕ) where
   pub delete-not-found : 0 < length n → pair_at pairs n ≡ None → NotFound ≡ delete_answer pairs n
   delete-not-found a e = sym (found a None e)
 
--- the pair that stands holds the value where its own is that
+-- the pair that is there holds the value if its own is that
 pub holds-found : (pairs : List Pair) (n v : List ℕ) (old : Pair) → pair_at pairs n ≡ Some old
     → holds (value_at pairs n) v ≡ bytes_eq old.value v
 holds-found pairs n v old e = ap (λ (o : Option Pair). holds (option_map (λ (q : Pair). q.value) o) v) e
@@ -122,7 +122,7 @@ worth-found pairs n old e = ap (λ (o : Option Pair). unwrap_or (option_map pair
 pub worth-none : (pairs : List Pair) (n : List ℕ) → pair_at pairs n ≡ None → bytes_at pairs n ≡ 0
 worth-none pairs n e = ap (λ (o : Option Pair). unwrap_or (option_map pair_bytes o) 0) e
 
--- how many bytes there are with a pair in its place, where so many go
+-- the bytes with a pair in its place, where `old` go
 pub used-with : (pairs : List Pair) (p : Pair) (used old : ℕ) → Ascend pairs → used ≡ bytes_of pairs
     → bytes_at pairs p.name ≡ old → used - old + pair_bytes p ≡ bytes_of (with_pair pairs p)
 used-with pairs p used old a is gone =

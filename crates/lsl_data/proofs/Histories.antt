@@ -17,13 +17,13 @@ use Rattle.lsl_data.proofs.Answering.{never-stored}
 use Rattle.lsl_data.proofs.Keeping.{store-none, store-with_pair, store-without}
 use Rattle.lsl_data.proofs.PairLemmas.{value-with_pair, value-without}
 
--- what is told after a first part
+-- what is known after a first part
 told-behind : (v : Option (List ℕ)) (xs ys : List (Option (List ℕ)))
     → last_told (last_told (v ∷ xs) ∷ ys) ≡ last_told (v ∷ (xs ++ ys))
 told-behind v [] ys = refl
 told-behind v (x ∷ xs) ys = told-behind x xs ys
 
--- a write or a delete tells what it did
+-- a write or a delete records what it did
 answered : (w : Wrote) (pairs : List Pair) (n v name : List ℕ)
     → value_at (pairs_after w pairs n v) name
     ≡ last_told (value_at pairs name ∷ filter_map (tells name) (if_accepted w n v))

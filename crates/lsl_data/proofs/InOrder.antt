@@ -54,7 +54,7 @@ module _ {X K : Type 0} {R : K → K → Ordering} (o : IsTotalOrder R) (key : X
   abbrev pub above : K → X → Bool
   above k y = is_lt (R k (key y))
 
-  -- the element behind those with lower keys, and before those with higher ones
+  -- the element after those with lower keys, and before those with higher ones
   abbrev pub put : List X → X → List X
   put xs x = filter (below (key x)) xs ++ x ∷ filter (above (key x)) xs
 
@@ -194,7 +194,7 @@ module _ {X K : Type 0} {R : K → K → Ordering} (o : IsTotalOrder R) (key : X
         at rest Greater q = (h.0, rest)
 
   module _ (same : K → K → Bool) (agrees : (a b : K) → same a b ≡ is_eq (R a b)) where
-    -- those whose key is another
+    -- those with another key
     abbrev pub others : List X → K → List X
     others xs k = filter (λ y. not (same k (key y))) xs
 
@@ -247,7 +247,7 @@ module _ {X K : Type 0} {R : K → K → Ordering} (o : IsTotalOrder R) (key : X
           ∙ ap (λ rest. cond (same k (key e.1)) (Some e.1) rest) (lookup-find es k h.1)
 
 module _ {X : Type 0} (p : X → Bool) where
-  -- where the first part has none, it is sought in the second
+  -- where the first part has none, the second is searched
   find-behind : (xs ys : List X) → find p xs ≡ None → find p (xs ++ ys) ≡ find p ys
   find-behind [] ys h = refl
   find-behind (x ∷ xs) ys h = at (find-behind xs ys) (p x) refl h
@@ -257,7 +257,7 @@ module _ {X : Type 0} (p : X → Bool) where
       at rest true is h = cc
       at rest false is h = rest h
 
-  -- where the second part has none, it is sought in the first
+  -- where the second part has none, the first is searched
   find-before : (xs ys : List X) → find p ys ≡ None → find p (xs ++ ys) ≡ find p xs
   find-before [] ys h = h
   find-before (x ∷ xs) ys h = ap (λ rest. cond (p x) (Some x) rest) (find-before xs ys h)
@@ -285,7 +285,7 @@ module _ {X K : Type 0} {R : K → K → Ordering} (o : IsTotalOrder R) (key : X
   equal-of : (a b : K) → same a b ≡ true → R a b ≡ Equal
   equal-of a b e = (Equal-is (R a b)).0 (sym (agrees a b) ∙ e)
 
-  -- what stands at a key after an element is put in its place
+  -- what is at a key after an element is put in its place
   pub find-put : (k : K) (xs : List X) (x : X)
       → find (λ y. same k (key y)) (put o key xs x)
       ≡ cond (same k (key x)) (Some x) (find (λ y. same k (key y)) xs)
@@ -328,7 +328,7 @@ module _ {X K : Type 0} {R : K → K → Ordering} (o : IsTotalOrder R) (key : X
           ∙ ap (λ (b : Bool). cond b (Some x) (find named (filter (above o key (key x)) xs))) (here Greater is)
           ∙ highs Greater is ∙ sym (ap (λ (b : Bool). cond b (Some x) (find named xs)) (here Greater is))
 
-  -- what stands at a key after those of another, or of this one, are gone
+  -- what is at a key after those of another, or of this one, are gone
   pub find-others : (k gone : K) (xs : List X)
       → find (λ y. same k (key y)) (others o key same agrees xs gone)
       ≡ cond (same gone k) None (find (λ y. same k (key y)) xs)
@@ -349,7 +349,7 @@ module _ {X : Type 0} (f : X → ℕ) where
 
 module _ {X K : Type 0} {R : K → K → Ordering} (o : IsTotalOrder R) (key : X → K)
     (same : K → K → Bool) (agrees : (a b : K) → same a b ≡ is_eq (R a b)) (f : X → ℕ) where
-  -- how much stands at a key
+  -- how much is at a key
   abbrev pub worth : K → List X → ℕ
   worth k xs = unwrap_or (option_map f (find (λ y. same k (key y)) xs)) 0
 
@@ -367,7 +367,7 @@ module _ {X K : Type 0} {R : K → K → Ordering} (o : IsTotalOrder R) (key : X
   worth-none k [] h = refl
   worth-none k (y ∷ ys) h = worth-tail k y ys (ap is_eq h.0) ∙ worth-none k ys h.1
 
-  -- what is put takes the place of what stood at its key
+  -- what is put takes the place of what was at its key
   pub sum-put : (xs : List X) (x : X) → Rises o key xs
       → sum_by f (put o key xs x) + worth (key x) xs ≡ sum_by f xs + f x
   sum-put [] x h = omega arith
@@ -397,7 +397,7 @@ module _ {X K : Type 0} {R : K → K → Ordering} (o : IsTotalOrder R) (key : X
             rest,
           )
 
-  -- what is left, with what stood at the key
+  -- what is left, with what was at the key
   pub sum-others : (xs : List X) (k : K) → Rises o key xs
       → sum_by f (others o key same agrees xs k) + worth k xs ≡ sum_by f xs
   sum-others [] k h = refl

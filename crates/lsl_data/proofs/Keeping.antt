@@ -17,7 +17,7 @@ use Rattle.lsl_data.specs.Pairs.{bytes_of, pair_at, with_pair, without}
 use Rattle.lsl_data.proofs.InOrder.{each-filter, each-put, sum-cons}
 use Rattle.lsl_data.proofs.PairLemmas.{Ascend-with_pair, Ascend-without, bytes_at, bytes-without, with_pair-last}
 
--- each pair has two bytes at least, so there are few
+-- each pair has at least two bytes, so there are few
 twice : (pairs : List Pair) → AllByRecursion IsPair pairs → 2 * length pairs ≤ bytes_of pairs
 twice [] each = omega arith
 twice (p ∷ pairs) each =
@@ -144,7 +144,7 @@ gone-within es used name gone kept is =
     let worth : bytes_at (values_of es) name ≡ gone = ap (λ (o : Option ℕ). unwrap_or o 0) (sym is) in
     omega (arith, kept.counted, bytes-without (values_of es) name kept.store.ascend, worth)
 
--- where bytes went, a pair stood there; where none went, none stood
+-- if bytes went, a pair was there; if none went, none was
 pub stood : (o : Option Pair) (gone : ℕ) → Some gone ≡ option_map pair_bytes o → (p : Pair) × (o ≡ Some p)
 stood None gone e = absurd (let never : ⊥ = cc in never)
 stood (Some p) gone e = (p, refl)

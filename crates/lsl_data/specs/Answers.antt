@@ -1,4 +1,4 @@
--- What a store answers to a write or a delete, and what becomes of its pairs.
+-- What a store answers to a write or a delete, and the effect on its pairs.
 use Rattle.std.specs.Prelude.{ℕ, ◌==◌, Bool, false, nat_lt, if◌then◌else◌, List, [], length, Option, Some, None, is_some}
 use Rattle.std.specs.Str.{bytes_eq}
 use Rattle.lsl_post.specs.declared.parts.Pair.{Pair}
@@ -7,7 +7,7 @@ use Rattle.lsl_data.specs.declared.answers.Wrote.{Wrote}
 use Rattle.lsl_data.specs.declared.answers.Wrote.TheVariants.{Stored, Deleted, NoKey, NotFound, Same, Full}
 use Rattle.lsl_data.specs.Pairs.{bytes_of, pair_at, value_at, with_pair, without}
 
--- this value stands there
+-- the name has this value
 abbrev pub holds : Option (List ℕ) → List ℕ → Bool
 holds None value = false
 holds (Some old) value = bytes_eq old value

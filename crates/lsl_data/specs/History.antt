@@ -47,14 +47,13 @@ abbrev pub accepted_from : List Pair → List Command → List Accepted
 accepted_from pairs [] = []
 accepted_from pairs (c ∷ commands) = accepted_of pairs c ++ accepted_from (after_command pairs c) commands
 
--- what was accepted of a name tells its value, or that it has none; what was accepted of another tells
--- nothing
+-- what was accepted of a name gives its value, or that it has none; what was accepted of another says nothing of it
 abbrev pub tells : List ℕ → Accepted → Option (Option (List ℕ))
 tells name (Given other value) = if same_name name other then Some (Some value) else None
 tells name (Taken other) = if same_name name other then Some None else None
 tells name Emptied = Some None
 
--- the last that was told
+-- the last value that was given
 abbrev pub last_told : List (Option (List ℕ)) → Option (List ℕ)
 last_told [] = None
 last_told (value ∷ []) = value

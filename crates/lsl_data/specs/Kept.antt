@@ -13,7 +13,7 @@ use Rattle.lsl_data.specs.Pairs.{bytes_of}
 abbrev pub Entries : Type 0
 Entries = List (String Global × Pair)
 
--- each pair stands at its name
+-- each pair is at its name
 abbrev pub AreNamed : Entries → Type 0
 AreNamed = AllByRecursion (λ e. string_bytes e.0 ≡ encode_utf8_all e.1.name)
 

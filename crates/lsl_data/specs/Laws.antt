@@ -6,8 +6,8 @@ use Rattle.lsl_image.specs.Valid.{IsStore}
 use Rattle.lsl_data.specs.History.{Command, accepted_from, last_value, store_after}
 use Rattle.lsl_data.specs.Pairs.{same_name, value_at, with_pair, without}
 
--- After any commands, a read gives the value of the last command on the name that was accepted since the
--- last reset: none where that took the name out, or where there was none.
+-- After any commands, a read gives the value of the last command on the name that was accepted since the last reset:
+-- none if that took the name out, or if there was none.
 abbrev pub ReadsAreLastAccepted : Type 0
 ReadsAreLastAccepted =
     (commands : List Command) (name : List ℕ)
@@ -28,6 +28,6 @@ TakenIsNotRead =
     (pairs : List Pair) (gone name : List ℕ)
     → value_at (without pairs gone) name ≡ (if same_name name gone then None else value_at pairs name)
 
--- Texts are one name where they are the same.
+-- Texts are one name if they are the same.
 abbrev pub NamesAreTexts : Type 0
 NamesAreTexts = (a b : List ℕ) → IsText a → IsText b → (same_name a b ≡ true) ↔ (a ≡ b)

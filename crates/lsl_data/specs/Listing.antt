@@ -9,7 +9,7 @@ abbrev pub first_place : ℤ → ℕ
 first_place (pos n) = n
 first_place (negsuc n) = 0
 
--- how many at most, of so many: all where it is below 1
+-- how many at most, of `all`: all if it is below 1
 abbrev pub most_listed : ℤ → ℕ → ℕ
 most_listed (pos zero) all = all
 most_listed (pos (suc n)) all = suc n

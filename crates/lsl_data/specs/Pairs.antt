@@ -7,11 +7,11 @@ use Rattle.std.specs.Str.{bytes_eq, encode_utf8_all}
 use Rattle.lsl_post.specs.declared.parts.Pair.{Pair}
 use Rattle.lsl_image.specs.Object.{pair_bytes}
 
--- two names are one where their bytes are
+-- two names are one if their bytes are
 abbrev pub same_name : List ℕ → List ℕ → Bool
 same_name a b = bytes_eq (encode_utf8_all a) (encode_utf8_all b)
 
--- a name stands before another where its bytes do
+-- a name comes before another if its bytes do
 abbrev pub is_before : List ℕ → List ℕ → Bool
 is_before a b = is_lt (slice_cmp nat_cmp (encode_utf8_all a) (encode_utf8_all b))
 

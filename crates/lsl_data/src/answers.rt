@@ -1,6 +1,6 @@
 //! What a store answers.
 
-/// What becomes of a write or a delete. The store is changed after `Stored` and `Deleted` alone.
+/// The result of a write or a delete. The store is changed after `Stored` and `Deleted` alone.
 #[derive(Clone, Copy, PartialEq, Eq, Drop)]
 pub enum Wrote {
     /// the name holds the value now

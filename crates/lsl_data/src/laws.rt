@@ -2,8 +2,8 @@
 
 ghost use Rattle.lsl_data.specs.Laws.{GivenIsRead, NamesAreTexts, ReadsAreLastAccepted, StoresAreKept, TakenIsNotRead};
 
-/// After any commands from an empty store, a read gives the value of the last command on the name that was
-/// accepted since the last reset: none where that took the name out, or where there was none.
+/// After any commands from an empty store, a read gives the value of the last command on the name that was accepted
+/// since the last reset: none if that took the name out, or if there was none.
 pub fn reads_are_last_accepted()
     ensures { ReadsAreLastAccepted }
 {}

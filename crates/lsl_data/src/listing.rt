@@ -33,7 +33,7 @@ fn first_place(first: i32) -> usize
     if first < 0 { 0 } else { first as usize }
 }
 
-// How many names are listed at most, of so many.
+// The most names that are listed, of `all`.
 fn most_listed(count: i32, all: usize) -> usize
     ensures { result ≡ most_listed count all }
 {

@@ -34,8 +34,8 @@ pub(crate) fn pair_at<'m>(map: &'m Named, name: &Text) -> Option<&'m Pair>
     map.get(name.as_str())
 }
 
-/// How many bytes there are with a pair in its place, of so many now: none where its value stands already.
-/// Takes no memory.
+/// The bytes with a pair in its place, where `used` are used now; none if its name has that value already. Takes no
+/// memory.
 pub(crate) fn used_with(map: &Named, used: u32, pair: &Pair) -> Option<u32>
     requires { IsKept map.now.entries used }
     ensures { MatchOption result (holds (value_at (values map.now) pair.now.name) pair.now.value ≡ true)
@@ -49,7 +49,7 @@ pub(crate) fn used_with(map: &Named, used: u32, pair: &Pair) -> Option<u32>
     }
 }
 
-/// Puts a pair in its place, for any other of its name. After want of memory the map is as before.
+/// Puts a pair in its place, and replaces any other of its name. When memory runs out the map is unchanged.
 pub(crate) fn put(alloc: Global, map: &mut Named, pair: Pair) -> Result<(), NoMemory>
     requires named { AreNamed map.old.entries }
     requires ascend { Ascend (values map.old) }
@@ -62,8 +62,7 @@ pub(crate) fn put(alloc: Global, map: &mut Named, pair: Pair) -> Result<(), NoMe
     Ok(())
 }
 
-/// Takes out the pair of a name, and tells how many bytes it had: none where there is no such name. Takes
-/// no memory.
+/// Takes out the pair of a name, and returns the number of its bytes: none if there is no such name. Takes no memory.
 pub(crate) fn take(map: &mut Named, name: &Text) -> Option<u32>
     requires named { AreNamed map.old.entries }
     requires ascend { Ascend (values map.old) }

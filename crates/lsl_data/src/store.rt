@@ -21,9 +21,8 @@ use std::marker::Model;
 /// How many bytes the names and values of a store have at most, all together.
 const MOST_BYTES: u32 = 65_536;
 
-/// The store of an object: values by name, seen as the list of its pairs in rising order of the names'
-/// bytes. No name and no value is empty, and all together have at most 65,536 bytes; how many they have is
-/// kept, not counted anew.
+/// The store of an object: values by name, seen as the list of its pairs in rising order of the names' bytes. No name
+/// and no value is empty, and all together have at most 65,536 bytes; their number is kept, not counted anew.
 #[derive(Drop)]
 pub struct Store {
     alloc: Global,
@@ -68,9 +67,10 @@ impl Store {
         Ok(store)
     }
 
-    /// Gives the name the value, or takes the name out where the value is empty; what it answers is the
-    /// first case of [`Wrote`] that holds, of an empty name, an empty value, the value that stands, no
-    /// room. Takes logarithmic time and memory for one entry; after want of memory the store is as before.
+    /// Gives the name the value, or takes the name out if the value is empty.
+    ///
+    /// The result is the first case of [`Wrote`] that holds, of an empty name, an empty value, the value that it has
+    /// already, no room. Takes logarithmic time and memory for one entry; when memory runs out the store is unchanged.
     pub fn write(&mut self, name: Text, value: Text) -> Result<Wrote, NoMemory>
         ensures answer { IfOk result (λ wrote. wrote ≡ write_answer self.old name value) }
         ensures after { OnOk result (self.new ≡ written self.old name value) }
@@ -103,7 +103,7 @@ impl Store {
         }
     }
 
-    // Adds a pair behind all others.
+    // Adds a pair after all others.
     fn push(&mut self, pair: Pair) -> Result<(), NoMemory>
         requires { IsStore (self.old ++ pair ∷ []) }
         ensures { OnOk result (self.new ≡ self.old ++ pair ∷ []) }
@@ -165,9 +165,10 @@ impl Store {
         MOST_BYTES - self.used
     }
 
-    /// The names as strings, in rising order of their bytes: from this place on, below 0 from the first,
-    /// and so many, all where that is below 1. Steps over the names before the first, and takes memory for
-    /// those that are listed; they are shared.
+    /// The names as strings, in rising order of their bytes: from this place on, below 0 from the first, and `count` of
+    /// them, all where that is below 1.
+    ///
+    /// Steps over the names before the first, and takes memory for those that are listed; they are shared.
     pub fn keys(&self, first: i32, count: i32) -> Result<Items, NoMemory>
         ensures { IfOk result (λ names. names ≡ names_listed self.now first count) }
     {

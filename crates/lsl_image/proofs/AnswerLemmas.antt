@@ -1,4 +1,4 @@
--- What a call answers that reads an image whole.
+-- What a call returns that reads an image whole.
 use Rattle.std.proofs.Common.{◌≡◌, ◌∙◌, refl, ap, subst, inl, inr, ◌⊎◌, arith, eqb-true, ℕ, ◌==◌, nat_le, List, length, Result, Err}
 use Rattle.std.proofs.lemmas.List.{length-take}
 use Rattle.std.proofs.lemmas.Result.{err_from_is_err_and}

@@ -1,4 +1,4 @@
--- What values are charged, as far as 64 bits go.
+-- The charge of values, saturated at 64 bits.
 use Rattle.std.proofs.Common.{◌≡◌, refl, ap, sym, subst, arith, ℕ, List, [], ◌∷◌, ◌++◌, sum_by}
 use Rattle.std.proofs.lemmas.List.Sums.{sum_by_push}
 use Rattle.lsl_value.specs.Values.{charge_of}

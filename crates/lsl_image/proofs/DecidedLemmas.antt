@@ -38,7 +38,7 @@ module _ (bytes : List ℕ) (are : (i : ℕ) → get_or bytes i 0 < 256) where
   form-answered TextForm p = text-answered bytes are p
   form-answered ValueForm p = value-answered bytes are p
 
-  -- a field stands there, or none does
+  -- a field is there, or none is
   abbrev IsHere : (form : Form) → ℕ → Type 0
   IsHere form p = (content : Content form) × (behind : ℕ) × Stands bytes p form content behind
 
@@ -110,7 +110,7 @@ world-ends bytes shapes library end p w q g =
     let last = split read.rest in
     last.rest.gives.1 ∙ ends-there bytes end read.middle last.value last.middle last.first.gives
 
--- the size that stands in its field
+-- the size in its field
 named-size : (bytes : List ℕ) → ((i : ℕ) → get_or bytes i 0 < 256) → 46 ≤ length bytes
     → (size : ℕ) × NamesSize bytes size
 named-size bytes are enough =

@@ -1,4 +1,4 @@
--- Things read one behind another, one for each of a list.
+-- Things read one after another, one for each of a list.
 use Rattle.std.proofs.Common.{◌≡◌, ◌∙◌, refl, sym, ap, subst, ℕ, ◌+◌, ◌<◌, ◌≤◌, List, [], ◌∷◌, ◌++◌, length, drop, get_or, Result, Err}
 use Rattle.std.specs.Result.{IsErrAnd}
 use Rattle.std.proofs.lemmas.List.{drop_all, drop_more}
@@ -15,7 +15,7 @@ each-start {X} {A} bytes layout xs p list none =
     subst (λ (l : List A). Leads bytes (each_behind layout xs l) p (λ all. all) (each layout xs) p) (sym none)
     (leads-all bytes (each layout xs) p)
 
--- what stands at a place, and what is left
+-- what is at a place, and what is left
 pub each-at : {X : Type 0} (xs : List X) (i : ℕ) (x : X) → i < length xs → x ≡ get_or xs i x
     → drop i xs ≡ x ∷ drop (i + 1) xs
 each-at {X} xs i x within is = drop_more xs i x within ∙ ap (λ (y : X). y ∷ drop (i + 1) xs) (sym is)
@@ -41,7 +41,7 @@ each-more {A = A} {bytes = bytes} layout xs before after i x a {p = p} {q = q} {
     subst (λ (l : List A). Leads bytes (each_behind layout (drop (i + 1) xs) l) q f whole start) (sym same)
     (leads-then (layout x) (λ next. each_behind layout (drop (i + 1) xs) (before ++ next ∷ [])) opened given)
 
--- one more of them could not be read, and that is the answer
+-- one more of them couldn't be read, and that is the answer
 pub each-stops : {X A C : Type 0} {bytes : List ℕ} (layout : X → Layout A) (xs : List X) (before : List A) (i : ℕ)
     (x : X) (e : Refusal ImageFault) (r : Result (C × ℕ) (Refusal ImageFault)) {p : ℕ} {f : List A → C}
     {whole : Layout C} {start : ℕ} → drop i xs ≡ x ∷ drop (i + 1) xs

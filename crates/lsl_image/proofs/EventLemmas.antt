@@ -1,4 +1,4 @@
--- Events, read behind their numbers.
+-- Events, read after their numbers.
 use Rattle.std.proofs.Common.{◌≡◌, ◌∙◌, refl, subst, sym, ap, arith, ℕ, zero, suc, ◌+◌, ◌<◌, List, [], ◌∷◌, ◌++◌, length, cond, Bool, true, false, Option, Some, None, Result, Err, slice_get}
 use Rattle.std.proofs.Math.Bool.{Bool-set}
 use Rattle.std.proofs.lemmas.Bool.Decides.{nat_tests}
@@ -53,7 +53,7 @@ module _ (bytes : List ℕ) (unit : Code) (state : ℕ) (exits : Bool) (place : 
       start) (sym known) leads in
       rw good at at
 
--- an event with these arguments, whose kinds are its own in whatever way that is shown
+-- an event with these arguments, with kinds that are shown to be its own in any way
 module _ (id : EventId) (who : Option Toucher) where
   event-same : (k : Kinded (signature_of id)) (vs : List Value) → k.values ≡ vs
       → (fits : same_kinds (kinds_of vs) (signature_of id) ≡ true)
@@ -106,7 +106,7 @@ module _ (bytes : List ℕ) (id : EventId) (kinds : List Kind) (own : kinds ≡ 
         subst (λ (e : Event). Gives bytes (event_of id) p e n)
         (sym (event-same id who have.those vs (sym have.same) fits)) given
 
--- an event that is put finds room
+-- an event that is put has room
 pub event-put : (old new : List Event) (e : Event) → length old < 64 → new ≡ with_event e old → new ≡ old ++ e ∷ []
 event-put old new e few put =
     let room : has_room old ≡ true = grind (arith, nat_tests, few) in

@@ -22,7 +22,7 @@ module _ (bytes : List ℕ) (form : Form) (p : ℕ) where
       subst (λ (w : Content form). Stands bytes p form w q) (sym g.3.0) at
 
   module _ {A : Type 0} (next : Content form → Layout A) where
-    -- what comes next is read behind the field
+    -- what comes next is read after the field
     pub field-next : (v : Content form) (q : ℕ) (a : A) (r : ℕ) → Gives bytes (field form) p v q
         → Gives bytes (next v) q a r → Gives bytes (field form >>= next) p a r
     unfolding field ◌>>=◌

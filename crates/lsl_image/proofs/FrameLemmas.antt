@@ -1,4 +1,4 @@
--- Saved calls, read one behind another.
+-- Saved calls, read one after another.
 use Rattle.std.proofs.Common.{◌≡◌, ◌∙◌, refl, subst, sym, ap, ℕ, ◌+◌, nat_lt, List, [], ◌∷◌, ◌++◌, length, true, false, Option, Some, None, Result}
 use Rattle.lsl_text.specs.declared.Refusal.{Refusal}
 use Rattle.lsl_code.specs.declared.frames.Frame.{Frame}
@@ -44,7 +44,7 @@ pub callee-after : (frames after : List Frame) (f : Frame) → after ≡ frames 
     → Some f.function ≡ callee_of after
 callee-after frames after f same = sym (ap callee_of same ∙ callee_of-push frames f)
 
--- the frame behind these
+-- the frame after these
 pub frame-behind : (bytes : List ℕ) (unit : Code) (handler : Option ℕ) (count i : ℕ) (callee : Option ℕ)
     (before : List Frame) (p : ℕ) (r : Result (Frame × ℕ) (Refusal ImageFault)) → length before ≡ i
     → callee ≡ callee_of before → Reads bytes (frame_in unit handler (nat_lt (i + 1) count) callee) p r

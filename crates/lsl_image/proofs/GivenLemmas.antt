@@ -1,4 +1,4 @@
--- What is given by layouts one behind another, taken apart.
+-- What layouts one after another give, taken apart.
 use Rattle.std.proofs.Common.{◌≡◌, ◌∙◌, refl, sym, ap, subst, arith, ℕ, zero, suc, ◌+◌, List, [], ◌∷◌, ◌++◌, length, Bool, true, false}
 use Rattle.std.proofs.lemmas.List.{length_push}
 use Rattle.std.specs.List.{AllByRecursion}
@@ -34,7 +34,7 @@ pub tested-told : {A : Type 0} {bytes : List ℕ} (good : Bool) (place : ℕ) {a
 tested-told true place g = record { holds = refl; same = g.gives.0 }
 tested-told false place g = absurd g.gives
 
--- what stands in a field with a test
+-- the content of a field with a test
 pub record IsThat (form : Form) (test : Content form → Bool) (v : Content form) : Type 0 where
   pub fits : Fits form v
   pub holds : test v ≡ true
@@ -61,7 +61,7 @@ pub each-push : {X : Type 0} (P : X → Type 0) (xs : List X) (x : X) → AllByR
 each-push P [] x all one = (one, tt)
 each-push P (y ∷ xs) x all one = (all.0, each-push P xs x all.1 one)
 
--- so many were read, of each of which this holds
+-- n were read, and this holds of each
 pub grown-all : {A : Type 0} {bytes : List ℕ} (layout : List A → Layout A) (P : A → Type 0)
     → ((before : List A) (p : ℕ) (x : A) (q : ℕ) → Given bytes (layout before) p x q → P x)
     → (n : ℕ) (before : List A) (p : ℕ) (list : List A) (q : ℕ) → Given bytes (grown n layout before) p list q
@@ -81,7 +81,7 @@ grown-long layout (suc n) before p list q g =
     let s = split g in
     omega (arith, grown-long layout n (before ++ s.value ∷ []) s.middle list q s.rest, length_push before s.value)
 
--- one was read for each of these, of each of which this holds
+-- one was read for each of these, and this holds of each
 pub each-all : {X A : Type 0} {bytes : List ℕ} (layout : X → Layout A) (Q : X → Type 0) (P : A → Type 0)
     → ((x : X) → Q x → (p : ℕ) (a : A) (q : ℕ) → Given bytes (layout x) p a q → P a)
     → (xs : List X) → AllByRecursion Q xs → (before : List A) (p : ℕ) (list : List A) (q : ℕ)

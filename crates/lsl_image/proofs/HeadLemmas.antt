@@ -1,4 +1,4 @@
--- Versions and digests, behind their fields; and where the fields of an image end.
+-- Versions and digests, after their fields; and where the fields of an image end.
 use Rattle.std.proofs.Common.{◌≡◌, refl, ℕ, ◌&&◌, nat_le, ◌==◌, cond, List, true, false}
 use Rattle.std.specs.Str.{bytes_eq}
 use Rattle.lsl_code.specs.declared.woven_units.Woven.{Woven as Code}

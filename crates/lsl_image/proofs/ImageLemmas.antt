@@ -1,4 +1,4 @@
--- An image stands for one thing, and has no fault; other bytes have one first fault.
+-- An image encodes one thing, and has no fault; other bytes have one first fault.
 use Rattle.std.proofs.Common.{◌≡◌, ◌∙◌, sym, ap, inl, inr, ◌⊎◌, arith, ℕ, List, length, drop}
 use Rattle.sha2.specs.Sha256.{sha256}
 use Rattle.lsl_bytes.proofs.NumberLemmas.{u64-prefix_free}

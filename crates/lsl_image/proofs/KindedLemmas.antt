@@ -1,4 +1,4 @@
--- Values of the kinds that are due, read one behind another.
+-- Values of the kinds that are due, read one after another.
 use Rattle.std.proofs.Common.{◌≡◌, ◌∙◌, refl, subst, sym, ap, inl, inr, ℕ, ◌+◌, ◌<◌, ◌≤◌, ℤ, List, [], ◌∷◌, ◌++◌, length, drop, get_or, Bool, true, false, Option, Some, None, IfSome, Result, Err, add-one, append_assoc, drop-cons}
 use Rattle.std.proofs.Math.Bool.{Bool-set}
 use Rattle.std.proofs.lemmas.Bool.{false≢true}
@@ -181,7 +181,7 @@ module _ (bytes : List ℕ) (kinds : List Kind) (i p : ℕ) (before : List Value
       (values-more bytes (get_or kinds i kind.Int) (drop (i + 1) kinds) p before (values_of kinds) start v q
       (behind-first within leads) given)
 
-  -- one more could not be read
+  -- one more couldn't be read
   pub values-exit : (e : Refusal ImageFault) (r : Result (List Value × ℕ) (Refusal ImageFault))
       → i < length kinds → LeadsBehind bytes (drop i kinds) p before (values_of kinds) start
       → Reads bytes (value_of (get_or kinds i kind.Int)) p (Err e) → IsErrAnd r (λ y. y ≡ e)

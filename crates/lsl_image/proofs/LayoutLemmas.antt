@@ -1,4 +1,4 @@
--- Bytes of a layout stand for one thing, and have no fault.
+-- Bytes of a layout encode one thing, and have no fault.
 use Rattle.std.proofs.Common.{◌≡◌, ◌∙◌, sym, ap, subst, inl, inr, arith, ℕ, List, length, drop}
 use Rattle.lsl_bytes.specs.Laws.{IsPrefixFree}
 use Rattle.lsl_bytes.proofs.NumberLemmas.{i32-prefix_free, u8-prefix_free, u16-prefix_free, u32-prefix_free, u64-prefix_free}
@@ -20,7 +20,7 @@ form-prefix_free (Bytes n) = same-fronts n
 form-prefix_free TextForm = text-prefix_free
 form-prefix_free ValueForm = value-prefix_free
 
--- what stands in a field is one thing, and ends at one place
+-- what is in a field is one thing, and ends at one place
 pub stands-one : (bytes : List ℕ) (place : ℕ) (form : Form) (v w : Content form) (p q : ℕ)
     → Stands bytes place form v p → Stands bytes place form w q → (v ≡ w) × (p ≡ q)
 stands-one bytes place form v w p q g h =

@@ -50,7 +50,7 @@ pub leads-err : {A B C : Type 0} {bytes : List ℕ} (l : Layout A) (g : A → La
 leads-err {bytes = bytes} l g (Fault fault) {p = p} leads h = leads.faults fault (faults-first bytes l g p fault h)
 leads-err l g NoMemory leads h = tt
 
--- the first could not be read, and that is the answer
+-- the first couldn't be read, and that is the answer
 pub leads-exits : {A B C : Type 0} {bytes : List ℕ} (l : Layout A) (g : A → Layout B) (e : Refusal ImageFault)
     (r : Result (C × ℕ) (Refusal ImageFault)) {p : ℕ} {f : B → C} {whole : Layout C} {start : ℕ}
     → Leads bytes (l >>= g) p f whole start → Reads bytes l p (Err e) → IsErrAnd r (λ y. y ≡ e)
@@ -59,7 +59,7 @@ leads-exits {bytes = bytes} l g e r {whole = whole} {start = start} leads h exit
     let same = err_from_is_err_and r exit in
     rw (same.1, same.2) (leads-err l g e leads h)
 
--- so many are to be read, and none is
+-- n are to be read, and none is
 pub leads-start : {A : Type 0} (bytes : List ℕ) (layout : List A → Layout A) (count p : ℕ) (list : List A)
     → list ≡ [] → Leads bytes (grown (count - 0) layout list) p (λ all. all) (grown count layout []) p
 leads-start {A} bytes layout count p list none =
@@ -91,7 +91,7 @@ leads-more {A} {bytes = bytes} layout before after count i x {p = p} {q = q} {f 
     subst (λ (l : List A). Leads bytes (grown (count - (i + 1)) layout l) q f whole start) (sym same)
     (leads-then (layout before) (λ next. grown (count - (i + 1)) layout (before ++ next ∷ [])) opened given)
 
--- one more of them could not be read, and that is the answer
+-- one more of them couldn't be read, and that is the answer
 pub leads-stops : {A C : Type 0} {bytes : List ℕ} (layout : List A → Layout A) (before : List A) (count i : ℕ)
     (e : Refusal ImageFault) (r : Result (C × ℕ) (Refusal ImageFault)) {p : ℕ} {f : List A → C}
     {whole : Layout C} {start : ℕ} → i < count → Leads bytes (grown (count - i) layout before) p f whole start

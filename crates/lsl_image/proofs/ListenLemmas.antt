@@ -60,7 +60,7 @@ listen-own bytes before p l q g =
     } in
     subst (IsOwn before) (sym third.3.0) own
 
--- whether the last is active is no matter
+-- it doesn't matter whether the last is active
 active-last : (next : ℤ) (list : List Listen) (l : Listen) (a : Bool) → IsStanding (standing next (list ++ l ∷ []))
     → IsStanding (standing next (list ++ record l { active = a } ∷ []))
 active-last next list l a s =
@@ -83,7 +83,7 @@ standing-own next list l s few own =
     active-last next list (listen_of l.number (filter_of l)) l.active
     (standing-push next l.number list (filter_of l) s few own.number own.free own.new)
 
--- all that are read stand
+-- all that are read are in order
 pub standing-grown : (bytes : List ℕ) (next : ℤ) (count : ℕ) (before list : List Listen) (p q : ℕ)
     → length before + count ≤ most_listens → IsStanding (standing next before)
     → Gives bytes (grown count listen_behind before) p list q → IsStanding (standing next list)

@@ -20,7 +20,7 @@ use Rattle.lsl_image.proofs.OneEventLemmas.{event-only, values-only}
 use Rattle.lsl_image.proofs.OneLemmas.{allowed, behind-here, both-parts, ended, field-bytes, grown-bytes, last-part, parted, passed, that-bytes}
 use Rattle.lsl_image.proofs.SpeltLemmas.{Spelt}
 
--- what stands behind the numbers of a frame
+-- what follows the numbers of a frame
 record IsFrameOf (function number : ℕ) (f : Frame) (part : List ℕ) : Type 0 where
   of_function : f.function ≡ function
   at_point : f.point ≡ number

@@ -124,7 +124,7 @@ number-only : (n : ℕ) (id : EventId) → event_numbered n ≡ Some id → even
 number-only zero id found = absurd (none-some id found)
 number-only (suc n) id found = number-at 1 events n id all-numbered found ∙ omega arith
 
--- what stands behind an event's number
+-- what follows an event's number
 record IsEventOf (id : EventId) (e : Event) (part : List ℕ) : Type 0 where
   same : e.id ≡ id
   bytes : part ≡ values_bytes e.args ++ toucher_bytes e.toucher

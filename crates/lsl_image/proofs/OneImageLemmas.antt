@@ -29,7 +29,7 @@ use Rattle.lsl_image.proofs.SpellingLemmas.{given-spelled}
 use Rattle.lsl_image.proofs.SpeltImageLemmas.{size-stands}
 use Rattle.lsl_image.proofs.SpeltLemmas.{Spelt}
 
--- a version that is known, and its bytes
+-- a known version, and its bytes
 record IsKnown (version : ℕ) (part : List ℕ) : Type 0 where
   known : (version ≡ 1) ⊎ (version ≡ 2)
   bytes : part ≡ u16_bytes version

@@ -1,4 +1,4 @@
--- What layouts one behind another spell, taken apart: the bytes are those of the parts.
+-- What layouts one after another spell, taken apart: the bytes are those of the parts.
 use Rattle.std.proofs.Common.{◌≡◌, ◌∙◌, refl, sym, ap, subst, arith, ℕ, zero, suc, ◌+◌, List, [], ◌∷◌, ◌++◌, length, append_assoc, length-append, Bool, true, false, cond}
 use Rattle.std.proofs.lemmas.List.{append-nil}
 use Rattle.std.specs.List.{flat_map}
@@ -7,7 +7,7 @@ use Rattle.lsl_image.specs.Layout.{Content, Form, Layout, Ends, Refused, Here, F
 use Rattle.lsl_image.specs.Spelling.{Spells}
 use Rattle.lsl_image.proofs.SpeltLemmas.{Spelt}
 
--- what the first layout spells, and what the one behind it does
+-- what the first layout spells, and what the one after it does
 pub record Parted {A B : Type 0} (l : Layout A) (g : A → Layout B) (p : ℕ) (b : B) (part : List ℕ) : Type 0 where
   pub value : A
   pub front : List ℕ
@@ -124,7 +124,7 @@ that-bytes form test {p} {v} {part} s =
           ∙ ap (bytes_of form) (sym t.same);
     }
 
--- so many were spelled behind others, by the bytes of each
+-- n were spelled after others, by the bytes of each
 pub record IsGrown {A : Type 0} (f : A → List ℕ) (n : ℕ) (before list : List A) (part : List ℕ) : Type 0 where
   pub new : List A
   pub same : list ≡ before ++ new

@@ -1,4 +1,4 @@
--- Pairs of a store, each behind those before it.
+-- Pairs of a store, each after those before it.
 use Rattle.std.proofs.Common.{◌≡◌, ◌∙◌, refl, sym, ap, arith, ℕ, ◌+◌, ◌-◌, List, [], ◌∷◌, ◌++◌, length, take, nat_le, Some, slice_get, sum_by}
 use Rattle.std.specs.Cmp.Lexicographic.{slice_cmp}
 use Rattle.std.specs.Ordering.{is_lt, nat_cmp}
@@ -17,7 +17,7 @@ above-push name [] last = refl
 above-push name (first ∷ []) last = refl
 above-push name (first ∷ next ∷ pairs) last = above-push name (next ∷ pairs) last
 
--- a name is above pairs where it is above the last
+-- a name is above pairs if it is above the last
 pub above-last : (name : List ℕ) (pairs : List Pair) (last : Pair) → Some last ≡ slice_get pairs (length pairs - 1)
     → is_above name pairs ≡ is_lt (slice_cmp nat_cmp (encode_utf8_all last.name) (encode_utf8_all name))
 above-last name pairs last is =
@@ -26,7 +26,7 @@ above-last name pairs last is =
     ap (is_above name) (sym whole ∙ take-at pairs (length pairs - 1) last is)
     ∙ above-push name (take (length pairs - 1) pairs) last
 
--- a pair finds room behind these where it finds the room that they leave
+-- a pair fits after these if it fits in the room that they leave
 pub room-left : (before : List Pair) (p : Pair) (room : ℕ) → sum_by pair_bytes before + room ≡ 65536
     → nat_le (pair_bytes p) room ≡ finds_room (before ++ p ∷ [])
 room-left before p room left =

@@ -1,4 +1,4 @@
--- Layouts read one behind another.
+-- Layouts read one after another.
 use Rattle.std.proofs.Common.{refl, subst, inl, inr, ℕ, List, Result, Ok, Err}
 use Rattle.lsl_text.specs.declared.Refusal.{Refusal}
 use Rattle.lsl_text.specs.declared.Refusal.TheVariants.{Fault, NoMemory}
@@ -45,13 +45,13 @@ reads-then bytes l f p x q (Ok y) g h = gives-then bytes l f p x q y.0 y.1 g h
 reads-then bytes l f p x q (Err (Fault fault)) g h = faults-then bytes l f p x q fault g h
 reads-then bytes l f p x q (Err NoMemory) g h = tt
 
--- the first could not be read
+-- the first couldn't be read
 pub reads-err : {A B : Type 0} (bytes : List ℕ) (l : Layout A) (f : A → Layout B) (p : ℕ)
     (e : Refusal ImageFault) → Reads bytes l p (Err e) → Reads bytes (l >>= f) p (Err e)
 reads-err bytes l f p (Fault fault) g = faults-first bytes l f p fault g
 reads-err bytes l f p NoMemory g = tt
 
--- what is given by one layout behind another is given by both
+-- what one layout after another gives, both give
 pub gives-split : {A B : Type 0} (bytes : List ℕ) (l : Layout A) (f : A → Layout B) (p : ℕ) (y : B) (r : ℕ)
     → Gives bytes (l >>= f) p y r → (x : A) × (q : ℕ) × Gives bytes l p x q × Gives bytes (f x) q y r
 unfolding ◌>>=◌

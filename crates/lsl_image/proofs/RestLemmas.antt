@@ -1,4 +1,4 @@
--- What a script rests in, behind its number.
+-- What a script rests in, after its number.
 use Rattle.std.proofs.Common.{◌≡◌, ◌≢◌, ◌∙◌, refl, subst, sym, ℕ, zero, suc, nat_le, List, Bool, true, false}
 use Rattle.lsl_value.specs.declared.tagged.Value.{Value}
 use Rattle.lsl_code.specs.declared.frames.Frame.{Frame}

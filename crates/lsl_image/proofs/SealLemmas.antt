@@ -1,4 +1,4 @@
--- What stands at a place of bytes, and the size that is named.
+-- What is at a place of bytes, and the named size.
 use Rattle.std.proofs.Common.{◌≡◌, ◌∙◌, sym, ap, subst, inl, inr, arith, ℕ, ◌+◌, ◌<◌, ◌≤◌, ◌^◌, List, [], ◌++◌, length, get_or, take, drop, Result, Err, w64}
 use Rattle.std.proofs.lemmas.List.{append-nil, drop_all, length-drop, length-take, take-append-drop, drop-drop}
 use Rattle.std.proofs.lemmas.Result.{err_from_is_err_and}
@@ -17,7 +17,7 @@ use Rattle.lsl_image.specs.Layout.{Bytes, field}
 use Rattle.lsl_image.specs.Reading.{Gives, IsRefusedBy, Reads}
 use Rattle.lsl_image.proofs.FieldLemmas.{field-stands}
 
--- so many bytes stand where there are so many
+-- n bytes are there where at least n are left
 pub length-part : (bytes : List ℕ) (p n : ℕ) → p + n ≤ length bytes → length (take n (drop p bytes)) ≡ n
 length-part bytes p n enough = omega (arith, length-take n (drop p bytes), length-drop p bytes)
 
@@ -45,7 +45,7 @@ refused-so P Q e r h exit =
     let same = err_from_is_err_and r exit in
     rw (same.1, same.2) h
 
--- so many bytes can be read where there are so many
+-- n bytes can be read where at least n are left
 pub bytes-there : {A : Type 0} (P : A → Type 0) (First : ImageFault → Type 0) (bytes : List ℕ) (p n : ℕ)
     (e : Refusal ImageFault) (r : Result A (Refusal ImageFault)) → p + n ≤ length bytes
     → Reads bytes (field (Bytes n)) p (Err e) → IsErrAnd r (λ y. y ≡ e) → MatchResult r P (IsRefusedBy First)

@@ -1,4 +1,4 @@
--- What stands before the fields of an image, and behind them.
+-- What comes before the fields of an image, and after them.
 use Rattle.std.proofs.Common.{◌≡◌, ◌∙◌, sym, ap, subst, arith, ℕ, ◌+◌, ◌<◌, ◌≤◌, List, [], ◌∷◌, ◌++◌, length, take, drop, get_or, append_assoc, length-append}
 use Rattle.std.proofs.Math.ListN.{set}
 use Rattle.std.proofs.Math.Seq.{set-append_seam}
@@ -49,6 +49,6 @@ sealed-is letters out head now digest new size four enough is_size is_head is_no
     is_now ∙ ap (λ (n : ℕ). head ++ drop n out) long ∙ ap (λ (t : List ℕ). t ++ drop 14 out) front in
     is_new ∙ ap (λ (t : List ℕ). now ++ t) is_digest ∙ ap digested_bytes covered
 
--- the fields that were written behind the room for a head
+-- the fields that were written after the reserved head
 pub fields-are : (room out fields : List ℕ) → length room ≡ 14 → out ≡ room ++ fields → drop 14 out ≡ fields
 fields-are room out fields long is = ap (drop 14) is ∙ drop_at room fields 14 long

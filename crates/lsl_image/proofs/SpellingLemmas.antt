@@ -6,7 +6,7 @@ use Rattle.lsl_image.specs.Layout.{Layout, Ends, Refused, Here, Field, bytes_of}
 use Rattle.lsl_image.specs.Reading.{Gives}
 use Rattle.lsl_image.specs.Spelling.{Spells}
 
--- bytes that spell something at the place where they stand give it there
+-- bytes that spell something at their place give it there
 pub spelled-gives : {A : Type 0} (bytes : List ℕ) (layout : Layout A) (place : ℕ) (a : A) (part : List ℕ)
     (next : ℕ) → StandsAt bytes place part next → Spells layout place a part → Gives bytes layout place a next
 spelled-gives bytes (Ends b) place a part next stands spells =
@@ -24,7 +24,7 @@ spelled-gives bytes (Field form more) place a part next stands spells =
           (stands-rest bytes (bytes_of form spells.0) spells.1 place next whole) spells.4,
     )
 
--- what is given is spelled by the bytes that stand there
+-- what is given is spelled by the bytes there
 pub record IsSpelled {A : Type 0} (bytes : List ℕ) (layout : Layout A) (place : ℕ) (a : A) (next : ℕ) : Type 0 where
   pub part : List ℕ
   pub stands : StandsAt bytes place part next

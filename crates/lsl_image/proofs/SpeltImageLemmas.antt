@@ -126,7 +126,7 @@ world-spells library w size is fits small whole same =
     (spelt-last _ (end-spells (length whole) (t + length objects) ends) (spelt-ends refl))))) in
     (spelt-as flat s).spells
 
--- the size stands where it is looked for
+-- the size is where it is looked for
 pub size-stands : (letters fields digest bytes : List ℕ) (version size : ℕ) → length letters ≡ 4
     → bytes ≡ (head_bytes letters version size ++ fields) ++ digest → StandsAt bytes 6 (u64_bytes size) 14
 unfolding head_bytes

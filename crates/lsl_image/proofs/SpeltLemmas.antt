@@ -1,4 +1,4 @@
--- What layouts one behind another spell, put together.
+-- What layouts one after another spell, put together.
 use Rattle.std.proofs.Common.{◌≡◌, ◌∙◌, refl, sym, ap, subst, arith, ℕ, ◌+◌, List, [], ◌∷◌, ◌++◌, length, map, append_assoc, length-append, Bool, true, false}
 use Rattle.std.proofs.lemmas.Bool.{false≢true}
 use Rattle.std.proofs.lemmas.List.{append-nil}
@@ -49,7 +49,7 @@ pub spelt-as : {A : Type 0} {l : Layout A} {p : ℕ} {a : A} {part other : List 
     → Spelt l p a other
 spelt-as {l = l} {p = p} {a = a} same s = subst (λ (t : List ℕ). Spelt l p a t) same s
 
--- what ends in what it was made for
+-- what ends as it was built to
 pub spelt-last : {A B : Type 0} {l : Layout A} (g : A → Layout B) {p : ℕ} {x : A} {front : List ℕ} {b : B}
     → Spelt l p x front → Spelt (g x) (p + length front) b [] → Spelt (l >>= g) p b front
 spelt-last g {front = front} s h = spelt-as (append-nil front) (spelt-then g s h)
@@ -80,7 +80,7 @@ spelt-that form test v {p = p} fits holds = record {
   );
 }
 
--- each of these is good behind those before it
+-- each of these is good after those before it
 pub GoodBehind : {A : Type 0} → (List A → A → Type 0) → List A → List A → Type 0
 GoodBehind Good before [] = Unit {0}
 GoodBehind Good before (x ∷ xs) = Good before x × GoodBehind Good (before ++ x ∷ []) xs

@@ -1,4 +1,4 @@
--- The test of which events may stand is that of which wait, or are in hand.
+-- The test of which events may be there is that of which wait, or are current.
 use Rattle.std.proofs.Common.{◌≡◌, refl, sym, ℕ, not, Bool, true, false}
 use Rattle.std.specs.Prelude.{if◌then◌else◌}
 use Rattle.std.proofs.lemmas.Bool.{and_from, and_parts}

@@ -1,4 +1,4 @@
--- At each place of bytes a field of a form stands or not: what the calls would answer that take it.
+-- At each place of bytes a field of a form is there or not: the results of the calls that take it.
 use Rattle.std.proofs.Common.{◌≡◌, ◌∙◌, sym, ap, refl, subst, inl, inr, ◌⊎◌, arith, ℕ, ℤ, zero, suc, ◌+◌, ◌<◌, ◌≤◌, List, [], ◌∷◌, ◌++◌, length, take, drop, get_or, Option, Some, None, Bool, true, false, length-append}
 use Rattle.std.specs.Int.{w16, w32, w64, from_be_bytes, cast_signed}
 use Rattle.std.specs.List.{flat_map}
@@ -18,7 +18,7 @@ use Rattle.lsl_bytes.proofs.TextLemmas.{counted-no_count, counted-prefix_free, t
 use Rattle.lsl_bytes.proofs.ValueLemmas.{value-atom_found, value-atom_none, value-list_found, value-list_none, value-no_tag}
 use Rattle.lsl_image.proofs.SealLemmas.{bytes-stand, length-part}
 
--- there is an answer: a value and the place behind it, or none
+-- there is an answer: a value and the place after it, or none
 pub record IsAnswered {V : Type 0} (form : V → List ℕ) (Fits : V → Type 0) (bytes : List ℕ) (place : ℕ) : Type 0 where
   pub answer : Option (V × ℕ)
   pub takes : Takes form Fits bytes place answer
@@ -35,7 +35,7 @@ same-or-not a b = of (cases_lt a b) (cases_lt b a)
     of (inr past) (inl above) = inr (λ same. omega (arith, above, same))
     of (inr past) (inr within) = inl (omega (arith, past, within))
 
--- so many bytes stand where there are so many
+-- n bytes are there where at least n are left
 pub array-answered : (bytes : List ℕ) (p n : ℕ) → IsAnswered array_bytes (IsArray n) bytes p
 array-answered bytes p n = of (cases_lt (length bytes) (p + n))
   where
@@ -107,7 +107,7 @@ module _ (bytes : List ℕ) (are : (i : ℕ) → get_or bytes i 0 < 256) where
       of (Some (n, next)) takes = answered (takes_as u32_bytes FitsU32 i32_bytes FitsI32 i32-prefix_free bytes p n
           (cast_signed w32 n) next (signed-fits n takes.found.0) (i32-of_u32 n takes.found.0) takes)
 
-  -- so many bytes behind their count
+  -- a count, and that number of bytes
   counted-answered : (p : ℕ) → IsAnswered counted_bytes IsCountable bytes p
   unfolding counted_bytes
   counted-answered p = of (u32-answered p).answer (u32-answered p).takes
@@ -202,7 +202,7 @@ module _ (bytes : List ℕ) (are : (i : ℕ) → get_or bytes i 0 < 256) where
       of None takes = answered (atom-no_tag bytes p takes)
       of (Some (tag, q)) takes = tag-answered p q tag takes
 
-  -- n elements more, behind those so far
+  -- n elements more, after those so far
   more-answered : (p count n : ℕ) (atoms : List Atom) (next : ℕ) → length atoms + n ≡ count
       → IsTaking bytes p count atoms next → IsAnswered (flat_map atom_bytes) (AreAtoms count) bytes p
   more-answered p count zero atoms next left taking =

@@ -47,7 +47,7 @@ module _ (bytes : List ℕ) (unit : Code) (handler : ℕ) where
     at-point None known p f q g = absurd g.gives
     at-point (Some point) known p f q g = test-point point known (same_callee point.calls callee) refl p f q g
 
-  -- a frame is at a point, and is the handler's where it is the last
+  -- a frame is at a point, and is the handler's if it is the last
   frame-told : (more : Bool) (callee : Option ℕ) (p : ℕ) (f : Frame) (q : ℕ)
       → Given bytes (frame_in unit (Some handler) more callee) p f q
       → IsAtPoint (points_of (bodies_of unit)) callee f × (more ≡ false → f.function ≡ handler)
@@ -67,7 +67,7 @@ module _ (bytes : List ℕ) (unit : Code) (handler : ℕ) where
             (sym (ap (λ (b : Bool). b || nat_eq first.value handler) last) ∙ ends),
       )
 
-  -- the frames behind these
+  -- the frames after these
   frames-told : (count n : ℕ) (before : List Frame) (p : ℕ) (frames : List Frame) (q : ℕ) → length before + n ≡ count
       → Given bytes (grown n (frame_behind unit (Some handler) count) before) p frames q
       → (behind : List Frame) × (frames ≡ before ++ behind)

@@ -133,7 +133,7 @@ module _ (bytes : List ℕ) where
         let told = script-valid unit version number p s q g in
         record { unit = unit; named = ap (slice_get library) told.0 ∙ sym known; script = told.1 }
 
-  -- a pair behind these
+  -- a pair after these
   pair-told : (before : List Pair) (p : ℕ) (x : Pair) (q : ℕ) → Given bytes (pair_behind before) p x q
       → IsPair x × (is_above x.name before ≡ true) × (finds_room (before ++ x ∷ []) ≡ true)
   unfolding pair_behind

@@ -21,7 +21,7 @@ appended : (old mid new a b : List ℕ) → mid ≡ old ++ a → new ≡ mid ++ 
 appended old mid new a b first then =
     then ∙ ap (λ (t : List ℕ). t ++ b) first ∙ append_assoc old a b
 
--- several pieces, the last by a call that may want memory
+-- several pieces, the last by a call that may run out of memory
 pub appended-four : {T E : Type 0} (r : Result T E) (old m n o new a b c d : List ℕ) → m ≡ old ++ a → n ≡ m ++ b
     → o ≡ n ++ c → OnOk r (new ≡ o ++ d) → OnOk r (new ≡ old ++ (a ++ b ++ c ++ d))
 appended-four (Ok x) old m n o new a b c d first second third last =
@@ -58,7 +58,7 @@ module _ {X : Type 0} where
       → AllByRecursion P (take i xs) → P x → AllByRecursion P (take (i + 1) xs)
   fits-at P xs i x is all one = subst (AllByRecursion P) (sym (take-at xs i x is)) (each-push P (take i xs) x all one)
 
-  -- an item is what stands at its place
+  -- an item is what is at its place
   pub item-at : (xs : List X) (i : ℕ) (x : X) → i < length xs → x ≡ get_or xs i x → Some x ≡ slice_get xs i
   item-at xs i x within is = sym (slice_get_read xs (length xs) i x refl within is)
 

@@ -1,4 +1,4 @@
--- What the calls answer that read images.
+-- What the calls return that read images.
 use Rattle.std.specs.Prelude.{◌≡◌, ◌⊎◌, MatchResult, Result}
 use Rattle.lsl_text.specs.declared.Refusal.{Refusal}
 use Rattle.lsl_text.specs.declared.Refusal.TheVariants.{Fault, NoMemory}

@@ -84,7 +84,7 @@ waiting_bytes version s =
     queue_bytes s.queue ++ listens_bytes s.listens ++ timer_bytes s.timer ++ u64_bytes s.wake
     ++ limit_bytes version s.limit ++ rest_bytes s.rest
 
--- a script whose unit's text has this digest
+-- a script of a unit with this digest of its text
 unfoldable pub script_bytes : ℕ → List ℕ → ScriptParts → List ℕ
 script_bytes version digest s =
     digest ++ u16_bytes s.state ++ leaving_bytes s.leaving ++ values_bytes s.globals ++ waiting_bytes version s
@@ -130,7 +130,7 @@ unfoldable pub objects_bytes : ℕ → List Code → WorldParts → List ℕ
 objects_bytes version library w =
     u64_bytes w.clock ++ u8_bytes (length w.objects) ++ flat_map (placed_bytes version library) w.objects
 
--- the letters, the version and the size of the whole: what stands before the fields, and the digest behind
+-- the letters, the version and the size of the whole: what comes before the fields, and the digest after them
 unfoldable pub head_bytes : List ℕ → ℕ → ℕ → List ℕ
 head_bytes letters version size = letters ++ u16_bytes version ++ u64_bytes size
 

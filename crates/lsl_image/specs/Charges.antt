@@ -1,6 +1,6 @@
--- What saved integers are charged.
+-- The charge of saved integers.
 use Rattle.std.specs.Prelude.{ℕ, ◌*◌}
 
--- so many integers are charged 8 each
+-- each of these integers is charged 8
 abbrev pub integers_charge : ℕ → ℕ
 integers_charge count = 8 * count

@@ -43,7 +43,7 @@ bare_bytes =
     0 ∷ 0 ∷ 0 ∷ 0 ∷ 0 ∷ 0 ∷ 0 ∷ 0 ∷ 0 ∷ 0 ∷ 0 ∷ 0 ∷ 0 ∷ 0 ∷ 1 ∷ 171 ∷ 1 ∷ 0 ∷ 0 ∷ 0 ∷ 1 ∷ 98 ∷
     0 ∷ 0 ∷ 0 ∷ 0 ∷ []
 
--- a touch with one argument, by who has this key and name, of this prim
+-- a touch with one argument, by a toucher of this key and name, of this prim
 abbrev pub touched : Event
 touched = record {
   id = event.Touch;
@@ -91,7 +91,7 @@ busy_bytes =
 abbrev pub saved_touch : Rest
 saved_touch = Saved touched (record { function = 5; point = 6; slots = Int (pos 1) ∷ [] } ∷ [])
 
--- the event in hand; how many calls there are; the function, the point and the value
+-- the current event; the count of calls; the function, the point and the value
 abbrev pub saved_bytes : List ℕ
 saved_bytes =
     1 ∷ 4 ∷ 1 ∷ 0 ∷ 0 ∷ 0 ∷ 1 ∷ 1 ∷ 0 ∷ 0 ∷ 0 ∷ 1 ∷ 107 ∷ 0 ∷ 0 ∷ 0 ∷ 1 ∷ 110 ∷ 0 ∷ 0 ∷ 0 ∷ 3 ∷

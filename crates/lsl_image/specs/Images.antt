@@ -1,4 +1,4 @@
--- Which bytes are images, what they stand for, and what the first fault of other bytes is.
+-- Which bytes are images, what they encode, and what the first fault of other bytes is.
 use Rattle.std.specs.Prelude.{◌≡◌, ◌≢◌, ℕ, ◌-◌, ◌<◌, ◌≤◌, ◌⊎◌, List, length, take, drop}
 use Rattle.sha2.specs.Sha256.{sha256}
 use Rattle.lsl_code.specs.declared.woven_units.Woven.{Woven as Code}
@@ -24,7 +24,7 @@ covered bytes = take (digested bytes) bytes
 abbrev pub digest_in : List ℕ → List ℕ
 digest_in bytes = drop (digested bytes) bytes
 
--- this number stands in the size field
+-- this number is in the size field
 abbrev pub NamesSize : List ℕ → ℕ → Type 0
 NamesSize bytes size = FitsU64 size × StandsAt bytes 6 (u64_bytes size) 14
 
@@ -41,16 +41,16 @@ WantsSize bytes wanted =
 abbrev pub IsIntact : List ℕ → Type 0
 IsIntact bytes = HasSize bytes × (digest_in bytes ≡ sha256 (covered bytes))
 
--- the bytes are an image of this layout, and stand for this
+-- the bytes are an image of this layout, and encode this
 abbrev pub IsImage : {A : Type 0} → (ℕ → Layout A) → List ℕ → A → Type 0
 IsImage layout bytes a = IsIntact bytes × Gives (covered bytes) (layout (digested bytes)) 0 a (digested bytes)
 
--- the digest of these bytes isn't that which stands behind them
+-- the digest of these bytes isn't the one after them
 abbrev pub IsDigestFault : List ℕ → List ℕ → ImageFault → Type 0
 IsDigestFault bytes behind (Digest found wanted) = (found ≡ sha256 bytes) × (wanted ≡ behind) × (found ≢ wanted)
 IsDigestFault bytes behind fault = ⊥
 
--- another size is named than that of the bytes, or another digest stands there than theirs
+-- the bytes name a size that isn't theirs, or are followed by a digest that isn't theirs
 abbrev pub IsOuterFault : List ℕ → ImageFault → Type 0
 IsOuterFault bytes (Size found wanted) = (found ≡ length bytes) × WantsSize bytes wanted
 IsOuterFault bytes fault = HasSize bytes × IsDigestFault (covered bytes) (digest_in bytes) fault
@@ -59,7 +59,7 @@ IsOuterFault bytes fault = HasSize bytes × IsDigestFault (covered bytes) (diges
 abbrev pub IsFieldFault : {A : Type 0} → (ℕ → Layout A) → List ℕ → ImageFault → Type 0
 IsFieldFault layout bytes fault = IsIntact bytes × Faults (covered bytes) (layout (digested bytes)) 0 fault
 
--- this is the first fault of bytes that are no image of this layout
+-- this is the first fault of bytes that aren't an image of this layout
 abbrev pub IsFirstFault : {A : Type 0} → (ℕ → Layout A) → List ℕ → ImageFault → Type 0
 IsFirstFault layout bytes fault = IsOuterFault bytes fault ⊎ IsFieldFault layout bytes fault
 

@@ -1,4 +1,4 @@
--- What an image stands for is one thing, an image has no fault, and other bytes have one first fault.
+-- What an image encodes is one thing, an image has no fault, and other bytes have one first fault.
 use Rattle.std.specs.Prelude.{◌≡◌, ◌⊎◌, List, ℕ, true}
 use Rattle.std.specs.List.{AllByRecursion}
 use Rattle.lsl_value.specs.Key.{is_valid_key}
@@ -84,11 +84,11 @@ WorldsAreSpelled =
     WorldImage shapes library a bytes →
     (bytes ≡ world_image 1 library a) ⊎ (bytes ≡ world_image 2 library a)
 
--- this number stands in the version field
+-- this number is in the version field
 abbrev pub NamesVersion : List ℕ → ℕ → Type 0
 NamesVersion bytes version = FitsU16 version × StandsAt bytes 4 (u16_bytes version) 6
 
--- images of one version that stand for the same are the same bytes
+-- images of one version that encode the same are the same bytes
 abbrev pub ObjectsHaveOneSpelling : Type 0
 ObjectsHaveOneSpelling =
     (region : List ℕ) (shape : Shape) (library : List Code) (version : ℕ) (x y : List ℕ) (a : ObjectParts) →

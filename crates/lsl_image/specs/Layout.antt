@@ -1,5 +1,5 @@
--- Layouts: fields one behind another, where what stands in one may decide what comes next. One layout of an image
--- tells which bytes it is, what they stand for, and what the first fault of other bytes is.
+-- Layouts: fields one after another, where the content of one may decide what comes next. One layout of an image
+-- defines which bytes it is, what they encode, and what the first fault of other bytes is.
 use Rattle.std.specs.Prelude.{◌≡◌, refl, ℕ, suc, zero, ℤ, Bool, true, false, ◌&&◌, if◌then◌else◌, List, [], ◌∷◌, ◌++◌, length}
 use Rattle.lsl_value.specs.Text.{IsText}
 use Rattle.lsl_value.specs.Values.{kind_of}
@@ -17,12 +17,12 @@ pub data Form : Type 0 where
   U32 : Form
   U64 : Form
   I32 : Form
-  -- so many bytes as they are
+  -- n bytes as they are
   Bytes : ℕ → Form
   TextForm : Form
   ValueForm : Form
 
--- what stands in a field
+-- the content of a field
 abbrev pub Content : Form → Type 0
 Content U8 = ℕ
 Content U16 = ℕ
@@ -54,16 +54,16 @@ Fits TextForm text = IsText text
 Fits ValueForm value = IsValue value
 
 pub data Layout (A : Type 0) : Type 0 where
-  -- nothing more, and this is what all stands for
+  -- nothing more, and this is what all of it encodes
   Ends : A → Layout A
-  -- whatever stands here, this is wrong
+  -- whatever is here, this is wrong
   Refused : ImageFault → Layout A
   -- the place where the next field begins
   Here : (ℕ → Layout A) → Layout A
   -- a field of this form
   Field : (form : Form) → (Content form → Layout A) → Layout A
 
--- one layout behind another
+-- one layout after another
 infixl 10 ◌>>=◌
 unfoldable pub ◌>>=◌ : {A B : Type 0} → Layout A → (A → Layout B) → Layout B
 (Ends a) >>= more = more a
@@ -85,16 +85,16 @@ tested good place a = if good then Ends a else Refused (Body place)
 unfoldable pub field_that : (form : Form) → (Content form → Bool) → Layout (Content form)
 field_that form test = Here (λ place. Field form (λ content. tested (test content) place content))
 
--- so many behind these, each of which may depend on those before it
+-- n more after these, each of which may depend on those before it
 unfoldable pub grown : {A : Type 0} → ℕ → (List A → Layout A) → List A → Layout (List A)
 grown zero layout before = Ends before
 grown (suc n) layout before = layout before >>= λ next. grown n layout (before ++ next ∷ [])
 
--- so many of these, one behind another
+-- n of these, one after another
 abbrev pub repeated : {A : Type 0} → ℕ → Layout A → Layout (List A)
 repeated n layout = grown n (λ before. layout) []
 
--- one for each of these, behind others
+-- one for each of these, after others
 unfoldable pub each_behind : {X A : Type 0} → (X → Layout A) → List X → List A → Layout (List A)
 each_behind layout [] before = Ends before
 each_behind layout (x ∷ xs) before = layout x >>= λ next. each_behind layout xs (before ++ next ∷ [])
@@ -122,7 +122,7 @@ one_more kind kinds value fits others = record {
   fits = both (same_kind (kind_of value) kind) (same_kinds (kinds_of others.values) kinds) fits others.fits;
 }
 
--- the value at this place, where its kind is the one that is due, before values of the other kinds
+-- the value at this place, if its kind is the one that is due, before values of the other kinds
 abbrev pub kinded : (kind : Kind) (kinds : List Kind) (place : ℕ) (value : Value) (same : Bool)
     → same_kind (kind_of value) kind ≡ same → Layout (Kinded kinds) → Layout (Kinded (kind ∷ kinds))
 kinded kind kinds place value true fits others =

@@ -6,7 +6,7 @@ use Rattle.lsl_image.specs.declared.faults.ImageFault.{ImageFault}
 use Rattle.lsl_image.specs.Layout.{Layout, kinded_values}
 use Rattle.lsl_image.specs.Reading.{Faults, Gives}
 
--- what the layout gives at the place is what the whole gives from its start, as this tells; and so are its faults
+-- what the layout gives at the place is what the whole gives from its start; and so are its faults
 pub record Leads {A B : Type 0} (bytes : List ℕ) (l : Layout A) (p : ℕ) (f : A → B) (whole : Layout B)
     (start : ℕ) : Type 0 where
   pub gives : (a : A) (q : ℕ) → Gives bytes l p a q → Gives bytes whole start (f a) q

@@ -13,7 +13,7 @@ use Rattle.lsl_image.specs.declared.parts.Shape.{Shape}
 use Rattle.lsl_image.specs.Layout.{Layout, Bytes, Ends, Refused, U8, U16, U64, TextForm, ◌>>=◌, each, field, field_that, grown, here, repeated, tested}
 use Rattle.lsl_image.specs.Rest.{script}
 
--- the 16 bytes of the UUID that a key is
+-- the 16 bytes of a key as a UUID
 abbrev pub key_bytes : List ℕ → Option (List ℕ)
 key_bytes key = parsed (encode_utf8_all key)
 
@@ -40,7 +40,7 @@ finds_room pairs = nat_le (sum_by pair_bytes pairs) most_store_bytes
 abbrev pub pair : List ℕ → List ℕ → Pair
 pair name value = record { name = name; value = value }
 
--- a pair behind these: both texts are there, the name is above the last one, and all the texts find room
+-- a pair after these: both texts are there, the name is above the last one, and all the texts fit
 unfoldable pub pair_behind : List Pair → Layout Pair
 pair_behind before = do
   place ← here
@@ -68,7 +68,7 @@ body version shape library = do
   pairs ← store version
   Ends (record { key = shape.key; names = names; scripts = scripts; store = pairs })
 
--- a version that is known
+-- a known version
 unfoldable pub known_version : Layout ℕ
 known_version = do
   version ← field U16

@@ -18,7 +18,7 @@ use Rattle.lsl_image.specs.declared.faults.ImageFault.TheVariants.{Body, WrongCo
 use Rattle.lsl_image.specs.Layout.{Layout, Bytes, Ends, Refused, U8, U16, U64, ◌>>=◌, field, field_that, grown, here, tested, values_of}
 use Rattle.lsl_image.specs.Script.{event_in, leaving, limit, listens, queue, timer}
 
--- the function that a frame behind these is a call of: that of the one before it, and none at the innermost
+-- the function that a frame after these is a call of: that of the one before it, and none at the innermost
 abbrev pub callee_of : List Frame → Option ℕ
 callee_of [] = None
 callee_of (last ∷ []) = Some last.function
@@ -37,7 +37,7 @@ is_number_of (Some g) f = nat_eq f g
 abbrev pub frame : ℕ → ℕ → List Value → Frame
 frame function number slots = record { function = function; point = number; slots = slots }
 
--- the values of a point's map, where the point is there and is a tick or a call of this function
+-- the values of a point's map, if the point is there and is a tick or a call of this function
 abbrev pub frame_at : ℕ → ℕ → ℕ → Option ℕ → Option Point → Layout Frame
 frame_at place function number callee None = Refused (Body place)
 frame_at place function number callee (Some point) =
@@ -49,7 +49,7 @@ frame_at place function number callee (Some point) =
 abbrev pub ends_in : Option ℕ → Bool → ℕ → Bool
 ends_in handler more f = more || is_number_of handler f
 
--- a frame that calls this function, or none, where more follow or the handler's is the last
+-- a frame that calls this function, or none, if more follow or the handler's is the last
 unfoldable pub frame_in : Code → Option ℕ → Bool → Option ℕ → Layout Frame
 frame_in unit handler more callee = do
   function ← field_that U16 (λ f. nat_lt f (length unit.functions) && ends_in handler more f)
@@ -57,7 +57,7 @@ frame_in unit handler more callee = do
   number ← field U16
   frame_at place function number callee (points_of (bodies_of unit) function number)
 
--- a frame behind these
+-- a frame after these
 abbrev pub frame_behind : Code → Option ℕ → ℕ → List Frame → Layout Frame
 frame_behind unit handler count before =
     frame_in unit handler (nat_lt (length before + 1) count) (callee_of before)
@@ -76,7 +76,7 @@ fault_numbered (suc zero) = MathError
 fault_numbered (suc (suc zero)) = StackHeap
 fault_numbered (suc (suc (suc n))) = TooManyListens
 
--- the event in hand, and the saved calls of its handler
+-- the current event, and the saved calls of its handler
 unfoldable pub saved_rest : Code → ℕ → Bool → List Value → ℕ → Layout Rest
 saved_rest unit state exits globals most = do
   event ← event_in unit state exits
@@ -94,7 +94,7 @@ rest_of unit state exits globals most zero = Ends Idle
 rest_of unit state exits globals most (suc zero) = saved_rest unit state exits globals most
 rest_of unit state exits globals most (suc (suc n)) = dead_rest
 
--- idle, saved calls, or a fault: the event in hand is an exit exactly where one is due
+-- idle, saved calls, or a fault: the current event is an exit exactly where one is due
 unfoldable pub rest : Code → ℕ → Bool → List Value → ℕ → Layout Rest
 rest unit state exits globals most = do
   kind ← field_that U8 (λ n. nat_le n 2)

@@ -35,7 +35,7 @@ told_toucher = do
   link ← field I32
   Ends (Some (record { key = key; name = name; link = link }))
 
--- the toucher, where the flag tells of one
+-- the toucher, if the flag announces one
 abbrev pub flagged_toucher : ℕ → Layout (Option Toucher)
 flagged_toucher zero = Ends None
 flagged_toucher (suc n) = told_toucher
@@ -58,7 +58,7 @@ abbrev pub event_numbered : ℕ → Option EventId
 event_numbered zero = None
 event_numbered (suc n) = slice_get events n
 
--- the state handles the event, and it is an exit exactly where one is due
+-- the state handles the event, and the event is an exit exactly where one is due
 abbrev pub may_stand : Code → ℕ → Bool → EventId → Bool
 may_stand unit state exits id =
     handles unit state id && (if exits then same_event id StateExit else not (same_event id StateExit))
@@ -79,7 +79,7 @@ event_in unit state exits = do
 abbrev pub other_state : Code → ℕ → Layout ℕ
 other_state unit state = field_that U16 (λ to. nat_lt to (length unit.states) && not (to == state))
 
--- the state that the script is leaving for, where the flag tells of one: the state has an exit
+-- the state that the script is leaving for, if the flag announces one: the state has an exit
 abbrev pub flagged_leaving : Code → ℕ → ℕ → ℕ → Layout (Option ℕ)
 flagged_leaving unit state place zero = Ends None
 flagged_leaving unit state place (suc n) =
@@ -99,7 +99,7 @@ queue unit state = do
   count ← field_that U8 (λ n. nat_le n most_events)
   repeated count (event_in unit state false)
 
--- what a listen asks that stands behind these: its four values are its own
+-- what a listen after these asks for: its four values are its own
 unfoldable pub filter_behind : List Listen → Layout Filter
 filter_behind before = do
   channel ← field I32
@@ -113,7 +113,7 @@ filter_behind before = do
 abbrev pub listen_with : ℤ → ℕ → Filter → Listen
 listen_with number flagged asked = record (listen_of number asked) { active = flagged == 1 }
 
--- a listen behind these, whose number and values are its own
+-- a listen after these, with a number and values of its own
 unfoldable pub listen_behind : List Listen → Layout Listen
 listen_behind before = do
   number ← field_that I32 (λ n. is_number n && not (has_number before n))
@@ -140,7 +140,7 @@ timer = do
   due ← field U64
   due_timer place period due (fits_timer period due) refl
 
--- version 1 has no limit: it is the greatest
+-- version 1 has no limit, which means the greatest
 unfoldable pub limit : ℕ → Layout ℕ
 limit version =
     if version == 1

@@ -1,4 +1,4 @@
--- The bytes that a layout has for what it stands for.
+-- The bytes that a layout has for what it encodes.
 use Rattle.std.specs.Prelude.{◌≡◌, ℕ, ◌+◌, List, [], ◌++◌, length}
 use Rattle.lsl_image.specs.Layout.{Content, Fits, Layout, Ends, Refused, Here, Field, bytes_of}
 

@@ -5,7 +5,7 @@ use Rattle.lsl_image.specs.Layout.{Layout}
 use Rattle.lsl_image.specs.Reading.{Gives}
 use Rattle.lsl_image.specs.Spelling.{Spells}
 
--- bytes that spell something where they stand are read as that, whatever is before and behind them
+-- bytes that spell something in place are read as that, whatever is before and after them
 abbrev pub IsReadAsSpelled : {A : Type 0} → Layout A → Type 0
 IsReadAsSpelled {A} layout =
     (bytes : List ℕ) (place : ℕ) (a : A) (part : List ℕ) (next : ℕ) →

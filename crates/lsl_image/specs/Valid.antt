@@ -1,4 +1,4 @@
--- Which parts have an image: those in whose fields the tests find no fault.
+-- Which parts have an image: those without a fault in any field.
 use Rattle.std.specs.Prelude.{◌≡◌, ℕ, ◌≤◌, ◌<◌, true, List, [], ◌∷◌, length, map, Some, slice_get, sum_by, ⊤}
 use Rattle.std.specs.Cmp.Lexicographic.{slice_cmp}
 use Rattle.std.specs.List.{AllByRecursion}
@@ -18,7 +18,7 @@ use Rattle.lsl_image.specs.declared.parts.WorldParts.{WorldParts}
 use Rattle.lsl_image.specs.Object.{most_store_bytes, pair_bytes}
 use Rattle.lsl_image.specs.World.{most_clock}
 
--- the calls of a handler in hand can be counted in their field
+-- the calls of a handler in flight can be counted in their field
 abbrev pub HasFewCalls : Rest → Type 0
 HasFewCalls Idle = ⊤
 HasFewCalls (Saved e frames) = length frames < 65536

@@ -6,7 +6,7 @@ ghost use Rattle.lsl_image.specs.Charges.{integers_charge};
 
 use lsl_value::INT_CHARGE;
 
-/// What is charged so far, and so many integers beside it, as far as 64 bits go. Takes no memory.
+/// What is charged so far and for `count` integers, saturated at 64 bits. Takes no memory.
 #[inline(always)]
 pub fn with_integers(charged: u64, count: usize) -> u64
     ensures { result ≡ charged_with charged (integers_charge count) }
@@ -14,7 +14,7 @@ pub fn with_integers(charged: u64, count: usize) -> u64
     charged.saturating_add(INT_CHARGE.saturating_mul(count as u64))
 }
 
-/// Whether what is charged is no more than the limit. Takes no memory.
+/// Whether the charge is at most the limit. Takes no memory.
 #[tactic(auto, using(std::proofs::lemmas::Bool::Decides::nat_tests))]
 pub fn is_within(limit: u32, charged: u64) -> bool
     ensures { (charge : ℕ) → charged ≡ charged_with 0 charge → result ≡ nat_le charge limit }

@@ -70,7 +70,7 @@ fn event_at(place: u8) -> Option<EventId>
     EVENTS.get(usize::from(place)).copied()
 }
 
-// Whether the state handles the event, and it is an exit exactly where one is due.
+// Whether the state handles the event, and the event is an exit exactly where one is due.
 fn may_stand(unit: &Woven, state: u16, exits: bool, id: EventId) -> bool
     ensures { result ≡ may_stand unit.now state exits id }
 {

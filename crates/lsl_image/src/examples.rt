@@ -22,7 +22,7 @@ pub fn object_without_scripts()
 {}
 
 /// A script that is leaving its state, with globals, a touch that waits, a listen and a timer, which stopped for good,
-/// behind its digest: 99 bytes in version 2.
+/// after its digest: 99 bytes in version 2.
 pub fn script_in_bytes()
     ensures { script_bytes 2 [] busy_script ≡ busy_bytes }
 {}

@@ -1,4 +1,4 @@
-//! What is wrong with bytes that are no image.
+//! What is wrong with bytes that aren't an image.
 
 ghost use Rattle.std.specs.Prelude.{◌≡◌};
 ghost use Rattle.lsl_text.specs.declared.Refusal.TheVariants.{Fault};
@@ -6,12 +6,12 @@ ghost use Rattle.lsl_image.specs.declared.faults.ImageFault.TheVariants.{Body};
 
 use lsl_text::Refusal;
 
-/// Why bytes are no image, the first fault in the order of the tests.
+/// Why bytes aren't an image: the first fault in the order of the tests.
 #[derive(Clone, Copy, PartialEq, Eq)]
 pub enum ImageFault {
-    /// There are this many bytes, and that many are wanted.
+    /// There are `found` bytes; the image says `wanted`.
     Size { found: u64, wanted: u64 },
-    /// The bytes have this digest, and that one stands behind them.
+    /// The digest of the bytes is `found`; the image says `wanted`.
     Digest { found: [u8; 32], wanted: [u8; 32] },
     /// The image has a version that isn't known.
     Version(u16),

@@ -14,7 +14,7 @@ use lsl_text::Refusal;
 use lsl_value::{Text, Value};
 use std::alloc::Global;
 
-/// What is read at a place, with the place behind it.
+/// What is read at a place, with the place after it.
 pub type Read<T> = Result<(T, usize), Refusal<ImageFault>>;
 
 /// A byte.
@@ -67,7 +67,7 @@ pub fn read_i32(bytes: &[u8], place: usize) -> Read<i32>
     }
 }
 
-/// So many bytes as they are.
+/// Bytes as they are, `N` of them.
 pub fn read_array<const N: usize>(bytes: &[u8], place: usize) -> Read<[u8; N]>
     ensures { Reads bytes.now (field (Bytes N)) place result }
 {

@@ -18,8 +18,10 @@ use std::alloc::Global;
 // How many bytes a saved call has at least.
 const LEAST_FRAME_BYTES: usize = 4;
 
-/// So many saved calls, the innermost first: each is at a call of the function of the one before it, the innermost at a
-/// tick, and the last is of the handler's function. With what they are charged beside what is charged so far.
+/// Saved calls, `count` of them, the innermost first, and the charge with them.
+///
+/// Each is at a call of the function of the one before it, the innermost at a tick, and the last is of the handler's
+/// function.
 pub fn read_frames(
     alloc: Global,
     bytes: &[u8],
@@ -52,8 +54,8 @@ pub fn read_frames(
     Ok((Sack::from_pack(pack), next))
 }
 
-// A saved call, which is at a call of this function, or at a tick, its values in this room. With what it is charged
-// beside what is charged so far.
+// A saved call, which is at a call of this function, or at a tick, with its values in this buffer, and the charge with
+// it.
 #[inline(always)]
 fn read_frame(
     alloc: Global,
@@ -117,7 +119,7 @@ fn read_function(
     Ok((function, next))
 }
 
-// Whether more frames follow, or this is the handler's function.
+// Whether more calls follow, or this is the handler's function.
 fn ends_in(handler: Option<u16>, more: bool, function: u16) -> bool
     ensures { result ≡ ends_in handler more function }
 {

@@ -34,7 +34,7 @@ fn read_letters(bytes: &[u8], place: usize, letters: &[u8; 4]) -> Read<[u8; 4]>
     Ok((found, next))
 }
 
-// A version that is known.
+// A known version.
 fn read_version(bytes: &[u8], place: usize) -> Read<u16>
     ensures { Reads bytes.now known_version place result }
 {

@@ -17,9 +17,11 @@ use lsl_text::Refusal;
 use lsl_value::Text;
 use std::alloc::Global;
 
-/// The object of an image of version 1 or 2, which was sent from this region and has this shape, or the first fault
-/// of the bytes. Walks the bytes once, and once more for their digest; takes memory for what is read, in proportion to
-/// the bytes that are there.
+/// The object of an image of version 1 or 2, which was sent from this region and has this shape, or the first fault of
+/// the bytes.
+///
+/// Walks the bytes once, and once more for their digest; takes memory for what is read, in proportion to the bytes that
+/// are there.
 pub fn read_object(
     alloc: Global,
     bytes: &[u8],
@@ -39,9 +41,10 @@ pub fn read_object(
     Ok(parts)
 }
 
-/// The world of an image of version 1 or 2 whose objects have these shapes, or the first fault of the bytes. Walks the
-/// bytes once, and once more for their digest; takes memory for what is read, in proportion to the bytes that are
-/// there.
+/// The world of an image of version 1 or 2 with objects of these shapes, or the first fault of the bytes.
+///
+/// Walks the bytes once, and once more for their digest; takes memory for what is read, in proportion to the bytes that
+/// are there.
 pub fn read_world(
     alloc: Global,
     bytes: &[u8],

@@ -9,7 +9,7 @@ ghost use Rattle.lsl_image.specs.Laws.{ObjectsHaveNoFault, ObjectsHaveOneSpellin
 ghost use Rattle.lsl_image.specs.Laws.{WorldFaultsAreOne, WorldsAreOne, WorldsAreSpelled, WorldsAreValid};
 ghost use Rattle.lsl_image.specs.Laws.{WorldsHaveNoFault, WorldsHaveOneSpelling, WorldsOrFaults};
 
-/// The bytes of an image stand for one thing.
+/// The bytes of an image encode one thing.
 pub fn images_are_of_one()
     ensures objects { ObjectsAreOne }
     ensures worlds { WorldsAreOne }

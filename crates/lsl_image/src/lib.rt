@@ -1,4 +1,4 @@
-//! Objects and worlds as images: byte lists that hold all that a script in flight needs to go on elsewhere.
+//! Objects and worlds as images: byte lists that hold all that a script in flight needs to continue elsewhere.
 #![tactic(auto)]
 
 mod calls;

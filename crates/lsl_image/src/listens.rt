@@ -15,10 +15,10 @@ use lsl_code::Sequence;
 use lsl_post::{Filter, Listen, Listens};
 use std::alloc::Global;
 
-/// How many listens stand at most.
+/// The greatest number of listens.
 const MOST_LISTENS: u8 = 65;
 
-/// The listens that stand, and the number of the next: their numbers and their values differ.
+/// The listens, and the number of the next: their numbers and their values differ.
 pub fn read_listens(alloc: Global, bytes: &[u8], place: usize) -> Read<Listens>
     ensures { Reads bytes.now listens place result }
 {
@@ -41,7 +41,7 @@ fn read_number(bytes: &[u8], place: usize) -> Read<i32>
     Ok((number, next))
 }
 
-// So many listens, each behind those before it.
+// Listens, `count` of them, each after those before it.
 fn read_list(alloc: Global, bytes: &[u8], place: usize, count: u8) -> Read<Sequence<Listen>>
     ensures { Reads bytes.now (grown count listen_behind []) place result }
 {
@@ -55,7 +55,7 @@ fn read_list(alloc: Global, bytes: &[u8], place: usize, count: u8) -> Read<Seque
     Ok((list, next))
 }
 
-// A listen whose number and values none of these has.
+// A listen with a number and values that none of these has.
 fn read_listen(alloc: Global, bytes: &[u8], place: usize, before: &[Listen]) -> Read<Listen>
     ensures { Reads bytes.now (listen_behind before.now) place result }
 {
@@ -86,7 +86,7 @@ fn read_own_number(bytes: &[u8], place: usize, before: &[Listen]) -> Read<i32>
     Ok((number, next))
 }
 
-// What a listen asks that none of these asks.
+// What a listen asks for, which none of these asks for.
 fn read_filter(alloc: Global, bytes: &[u8], place: usize, before: &[Listen]) -> Read<Filter>
     ensures { Reads bytes.now (filter_behind before.now) place result }
 {

@@ -1,4 +1,4 @@
-//! Objects, behind what an image begins with.
+//! Objects, after the head of an image.
 
 ghost use Rattle.std.specs.Prelude.{◌≡◌, ◌==◌, [], length, slice_get};
 ghost use Rattle.lsl_image.specs.Layout.{Bytes, TextForm, U16, U8, each, field, field_that, repeated};
@@ -95,7 +95,7 @@ fn read_scripts_count(bytes: &[u8], place: usize, shape: &Shape) -> Read<u16>
     Ok((found, next))
 }
 
-// So many texts.
+// Texts, `count` of them.
 fn read_names(alloc: Global, bytes: &[u8], place: usize, count: u32) -> Read<Sequence<Text>>
     ensures { Reads bytes.now (repeated count (field TextForm)) place result }
 {

@@ -1,4 +1,4 @@
-//! What an image stands for.
+//! The parts that an image encodes.
 
 use lsl_code::Sequence;
 use lsl_post::{Pair, ScriptParts};
@@ -28,7 +28,7 @@ pub struct ObjectParts {
     pub store: Pairs,
 }
 
-/// An object of a world, and the region where it is.
+/// An object of a world, and its region.
 #[derive(Drop)]
 pub struct Placed {
     pub region: Text,

@@ -18,7 +18,7 @@ use std::alloc::Global;
 /// How many ways to rest there are beside being idle.
 const MOST_REST: u8 = 2;
 
-/// Idle, saved calls, or a fault. The event in hand is an exit exactly where the script is leaving its state.
+/// Idle, saved calls, or a fault. The current event is an exit exactly where the script is leaving its state.
 pub fn read_rest(
     alloc: Global,
     bytes: &[u8],
@@ -41,7 +41,7 @@ pub fn read_rest(
     read_dead(bytes, next)
 }
 
-// The event in hand, and the saved calls of its handler.
+// The current event, and the saved calls of its handler.
 fn read_saved(
     alloc: Global,
     bytes: &[u8],

@@ -18,7 +18,7 @@ use lsl_post::ScriptParts;
 use lsl_text::Refusal;
 use std::alloc::Global;
 
-/// The parts of a script of this unit, whose number in the library this is.
+/// The parts of a script of this unit, which has this number in the library.
 pub fn read_script(
     alloc: Global,
     bytes: &[u8],

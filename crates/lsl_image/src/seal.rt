@@ -16,7 +16,7 @@ use sha2::{Digest, Sha256};
 /// How many bytes an image has at least: its letters, its version, its size and its digest.
 const LEAST_BYTES: usize = 46;
 
-/// Where the size stands.
+/// The place of the size.
 const SIZE_PLACE: usize = 6;
 
 /// How many bytes the digest has.
@@ -33,7 +33,7 @@ pub fn open(bytes: &[u8]) -> Result<&[u8], Refusal<ImageFault>>
     Ok(&bytes[..end])
 }
 
-// Whether the size that is named is that of the bytes.
+// Whether the named size is that of the bytes.
 fn check_size(bytes: &[u8]) -> Result<(), Refusal<ImageFault>>
     ensures { MatchResult result (λ _. HasSize bytes.now) (IsRefusedBy (IsOuterFault bytes.now)) }
 {
@@ -56,7 +56,7 @@ fn other_size(bytes: &[u8], wanted: u64) -> Refusal<ImageFault>
     Refusal::Fault(ImageFault::Size { found, wanted })
 }
 
-// Whether the digest of the bytes up to this end is what stands behind them.
+// Whether the digest of the bytes up to this end is the one after them.
 fn check_digest(bytes: &[u8], end: usize) -> Result<(), Refusal<ImageFault>>
     requires { end + 32 ≡ length bytes.now }
     ensures { MatchResult result (λ _. drop end bytes.now ≡ sha256 (take end bytes.now))

@@ -29,7 +29,7 @@ pub fn read_store(alloc: Global, bytes: &[u8], place: usize, version: u16) -> Re
     read_pairs(alloc, bytes, next, count)
 }
 
-// So many pairs, each behind those before it.
+// Pairs, `count` of them, each after those before it.
 fn read_pairs(alloc: Global, bytes: &[u8], place: usize, count: u16) -> Read<Pairs>
     ensures { Reads bytes.now (grown count pair_behind []) place result }
 {
@@ -45,7 +45,7 @@ fn read_pairs(alloc: Global, bytes: &[u8], place: usize, count: u16) -> Read<Pai
     Ok((pairs, next))
 }
 
-// A pair behind these, which leave so much room: its name is above the last one.
+// A pair after these, which leave `room` bytes: its name is above the last one.
 fn read_pair(alloc: Global, bytes: &[u8], place: usize, before: &[Pair], room: usize) -> Read<Pair>
     requires { sum_by pair_bytes before.now + room ≡ 65536 }
     ensures read { Reads bytes.now (pair_behind before.now) place result }
@@ -63,7 +63,7 @@ fn read_pair(alloc: Global, bytes: &[u8], place: usize, before: &[Pair], room: u
     Ok((pair, next))
 }
 
-// Whether the value isn't empty, and the pair finds so much room.
+// Whether the value isn't empty, and the pair fits in `room` bytes.
 fn fits(pair: &Pair, room: usize) -> bool
     ensures { result ≡ (nat_lt 0 (length pair.now.value) && nat_le (pair_bytes pair.now) room) }
 {
@@ -94,7 +94,7 @@ fn is_above_last(name: &Text, before: &[Pair]) -> bool
     }
 }
 
-// Whether a text stands before another in the order of their bytes.
+// Whether a text comes before another in the order of their bytes.
 fn is_below(low: &Text, high: &Text) -> bool
     ensures { result ≡ is_lt (slice_cmp nat_cmp (encode_utf8_all low.now) (encode_utf8_all high.now)) }
 {

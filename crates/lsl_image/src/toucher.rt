@@ -1,4 +1,4 @@
-//! Who touched a prim, as an event has it.
+//! The toucher of a prim, as an event has it.
 
 ghost use Rattle.lsl_image.specs.Reading.{Reads};
 ghost use Rattle.lsl_image.specs.Script.{flagged_toucher, told_toucher, toucher};

@@ -41,7 +41,7 @@ fn kinds_of(alloc: Global, values: &[Value]) -> Result<Vec<Kind>, NoMemory>
     Ok(kinds)
 }
 
-/// A value of each of these kinds. What is reserved is no more than can stand in the bytes that are left.
+/// A value of each of these kinds. It reserves no more than can be in the bytes that are left.
 pub fn read_values(alloc: Global, bytes: &[u8], place: usize, kinds: &[Kind]) -> Read<Values>
     ensures { Reads bytes.now (values_of kinds.now) place result }
 {
@@ -49,7 +49,7 @@ pub fn read_values(alloc: Global, bytes: &[u8], place: usize, kinds: &[Kind]) ->
     read_charged_values(alloc, bytes, place, kinds, Vec::new(alloc), &mut charged)
 }
 
-/// The same in this room, and what they are charged beside what is charged so far.
+/// A value of each of these kinds in this buffer, and the charge with them.
 #[inline(always)]
 pub fn read_charged_values(
     alloc: Global,
@@ -74,8 +74,8 @@ pub fn read_charged_values(
     Ok((Values::from_vec(values), next))
 }
 
-// The integers at the front, up to the first value that is none, can't be read or has no room, and the place behind
-// them.
+// The integers at the front, up to the first value that isn't an integer, can't be read or has no room, and the place
+// after them.
 #[inline(always)]
 fn read_integers(bytes: &[u8], place: usize, kinds: &[Kind], values: &mut Vec<Value>) -> usize
     requires { values.old.items ≡ [] }
@@ -97,7 +97,7 @@ fn read_integers(bytes: &[u8], place: usize, kinds: &[Kind], values: &mut Vec<Va
     next
 }
 
-// The values behind those that are read, and charged.
+// The values after those that are read, and charged.
 #[inline(never)]
 fn read_others(
     alloc: Global,
@@ -123,7 +123,7 @@ fn read_others(
     Ok((Values::from_vec(values), next))
 }
 
-// The integer of a value, where one is due and stands at the place.
+// The integer of a value, if one is due and is at the place.
 #[inline(always)]
 fn int_of(bytes: &[u8], place: usize, kind: Kind) -> Option<(i32, usize)>
     ensures { IfSome result (λ read. Gives bytes.now (value_of kind) place (Int read.0) read.1) }

@@ -1,4 +1,4 @@
-//! What a script waits for beside events, and the limit of its charge.
+//! What a script waits for other than events, and the limit of its charge.
 
 ghost use Rattle.std.specs.Prelude.{◌≡◌, ◌≤◌};
 ghost use Rattle.lsl_value.specs.declared.names.EventId.TheVariants.{StateExit};
@@ -41,7 +41,7 @@ fn fits_timer(period: u32, due: u64) -> bool
     period > 0 || due == 0
 }
 
-/// The limit of a script's charge: version 1 has none, and stands for the greatest.
+/// The limit of a script's charge. Version 1 has none, which means the greatest.
 #[tactic(auto, unfolding(crate::specs::Layout::field, crate::specs::Layout::field_that, crate::specs::Script::limit))]
 pub fn read_limit(bytes: &[u8], place: usize, version: u16) -> Read<u32>
     ensures { Reads bytes.now (limit version) place result }
@@ -56,7 +56,7 @@ pub fn read_limit(bytes: &[u8], place: usize, version: u16) -> Read<u32>
     Ok((most, next))
 }
 
-/// The state that the script is leaving for, if it is: another one, where the state has an exit.
+/// The state that the script is leaving for, if any: another one, if the state has an exit.
 pub fn read_leaving(bytes: &[u8], place: usize, unit: &Woven, state: u16) -> Read<Option<u16>>
     ensures { Reads bytes.now (leaving unit.now state) place result }
 {

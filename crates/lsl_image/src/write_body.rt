@@ -44,7 +44,7 @@ fn write_key(out: &mut Vec<u8>, key: &Text) -> Result<(), NoMemory>
     }
 }
 
-// Appends the names of prims behind their count.
+// Appends the count of names of prims, and the names.
 #[tactic(auto, unfolding(crate::specs::Bytes::names_bytes))]
 fn write_names(out: &mut Vec<u8>, names: &Sequence<Text>) -> Result<(), NoMemory>
     requires { length names.now ≤ 255 }
@@ -65,7 +65,7 @@ fn write_texts(out: &mut Vec<u8>, names: &[Text]) -> Result<(), NoMemory>
     Ok(())
 }
 
-// Appends scripts behind their count.
+// Appends the count of scripts, and the scripts.
 #[tactic(auto, unfolding(crate::specs::Bytes::scripts_bytes))]
 fn write_scripts(
     out: &mut Vec<u8>,
@@ -97,7 +97,7 @@ fn write_each_script(
     Ok(())
 }
 
-// Appends the pairs of a store behind their count.
+// Appends the count of a store's pairs, and the pairs.
 fn write_store(out: &mut Vec<u8>, pairs: &Pairs) -> Result<(), NoMemory>
     requires { length pairs.now ≤ 65535 }
     ensures ok { OnOk result (out.new.items ≡ out.old.items ++ store_bytes 2 pairs.now) }

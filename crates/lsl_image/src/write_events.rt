@@ -1,5 +1,4 @@
-//! Events, appended to an image. After an `Err` of a call that appends, some of its bytes may stand behind
-//! the old ones.
+//! Events, appended to an image. After an `Err` of a call that appends, some of its bytes may follow the old ones.
 
 ghost use Rattle.std.specs.Prelude.{◌≡◌, ◌++◌, OnOk};
 ghost use Rattle.std.specs.List.{flat_map, AllByRecursion};
@@ -23,7 +22,7 @@ pub fn write_values(out: &mut Vec<u8>, values: &[Value]) -> Result<(), NoMemory>
     Ok(())
 }
 
-/// Appends the events that wait behind their count.
+/// Appends the count of the events that wait, and the events.
 #[tactic(auto, unfolding(crate::specs::Bytes::queue_bytes))]
 pub fn write_queue(out: &mut Vec<u8>, queue: &Queue) -> Result<(), NoMemory>
     ensures ok { OnOk result (out.new.items ≡ out.old.items ++ queue_bytes queue.now) }

@@ -21,7 +21,7 @@ use std::alloc::Global;
 /// The version of the images that are written.
 const VERSION: u16 = 2;
 
-/// How many bytes stand before the fields: the letters, the version and the size.
+/// The number of bytes before the fields: the letters, the version and the size.
 const HEAD_BYTES: usize = 14;
 
 /// The image of an object that is sent from this region. Walks the parts once, and the image once for its digest.
@@ -73,7 +73,7 @@ fn write_object_fields(
     write_body(out, parts, library)
 }
 
-// The clock, and the objects behind their count.
+// The clock, the count of objects, and the objects.
 #[tactic(auto, unfolding(crate::specs::Bytes::objects_bytes))]
 fn write_world_fields(
     out: &mut Vec<u8>,
@@ -89,7 +89,7 @@ fn write_world_fields(
     write_objects(out, parts.objects.as_slice(), library)
 }
 
-// Room for what stands before the fields.
+// Reserves for what comes before the fields.
 fn begun(alloc: Global) -> Result<Vec<u8>, NoMemory>
     ensures { IfOk result (λ out. length out.items ≡ 14) }
 {
@@ -98,7 +98,7 @@ fn begun(alloc: Global) -> Result<Vec<u8>, NoMemory>
     Ok(out)
 }
 
-// The image of these fields, before which there is room.
+// The image of these fields, which follow the reserved head.
 fn sealed(out: Vec<u8>, letters: &[u8; 4]) -> Result<Vec<u8>, NoMemory>
     requires { 14 ≤ length out.items }
     ensures bytes { IfOk result (λ image. image.items ≡ image_bytes letters.now 2 (drop 14 out.items)) }
@@ -113,7 +113,7 @@ fn sealed(out: Vec<u8>, letters: &[u8; 4]) -> Result<Vec<u8>, NoMemory>
     Ok(out)
 }
 
-// What stands before the fields.
+// What comes before the fields.
 #[tactic(auto, unfolding(crate::specs::Bytes::head_bytes))]
 fn head_of(alloc: Global, letters: &[u8; 4], size: u64) -> Result<Vec<u8>, NoMemory>
     ensures { IfOk result (λ head. head.items ≡ head_bytes letters.now 2 size) }

@@ -14,7 +14,7 @@ use lsl_post::Rest;
 use lsl_running::Fault;
 use lsl_text::NoMemory;
 
-/// Appends what a script rests in behind its number.
+/// Appends the number of what a script rests in, and its content.
 pub fn write_rest(out: &mut Vec<u8>, rest: &Rest) -> Result<(), NoMemory>
     requires { HasFewCalls rest.now }
     ensures ok { OnOk result (out.new.items ≡ out.old.items ++ rest_bytes rest.now) }
@@ -45,7 +45,7 @@ fn fault_number(fault: Fault) -> u8
     }
 }
 
-// Appends saved calls behind their count.
+// Appends the count of saved calls, and the calls.
 #[tactic(auto, unfolding(crate::specs::Bytes::calls_bytes))]
 fn write_calls(out: &mut Vec<u8>, sack: &Sack) -> Result<(), NoMemory>
     requires { length sack.now < 65536 }

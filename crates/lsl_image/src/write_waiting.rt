@@ -1,4 +1,4 @@
-//! What a script waits for beside events, appended to an image.
+//! What a script waits for other than events, appended to an image.
 
 ghost use Rattle.std.specs.Prelude.{◌≡◌, ◌++◌, OnOk};
 ghost use Rattle.std.specs.List.{flat_map, AllByRecursion};
@@ -10,7 +10,7 @@ use lsl_bytes::{push_i32, push_text, push_u8, push_u16, push_u32, push_u64};
 use lsl_post::{Listen, Listens, Timer};
 use lsl_text::NoMemory;
 
-/// Appends the listens that stand behind the next number and their count.
+/// Appends the next number, the count of listens, and the listens.
 #[tactic(auto, unfolding(crate::specs::Bytes::listens_bytes))]
 pub fn write_listens(out: &mut Vec<u8>, listens: &Listens) -> Result<(), NoMemory>
     ensures ok { OnOk result (out.new.items ≡ out.old.items ++ listens_bytes listens.now) }
@@ -63,7 +63,7 @@ pub fn write_timer(out: &mut Vec<u8>, timer: &Timer) -> Result<(), NoMemory>
     push_u64(out, timer.due)
 }
 
-/// Appends the state that a script is leaving for, if it is, behind a flag.
+/// Appends a flag, and the state that a script is leaving for, if any.
 pub fn write_leaving(out: &mut Vec<u8>, leaving: Option<u16>) -> Result<(), NoMemory>
     ensures ok { OnOk result (out.new.items ≡ out.old.items ++ leaving_bytes leaving) }
     ensures fits { OnOk result (FitsLeaving leaving) }

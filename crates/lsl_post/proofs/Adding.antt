@@ -31,7 +31,7 @@ listened-new f s new (Err fault) none h = (
       ap (listened_at f s) none ∙ ap (λ (b : Bool). cond b (Some (free_number s, with_listen f s)) None) full,
 )
 
--- the listens with a new one stand
+-- the listens with a new one are in order
 pub standing-new : (f : Filter) (s : Standing) (n : ℤ) (l : Listen) → IsStanding s
     → place_of_filter f s.list ≡ None → length s.list < most_listens →
     is_number n ≡ true → has_number s.list n ≡ false → l ≡ listen_of n f

@@ -35,8 +35,7 @@ part-before old new first others p =
 pub part-none : (old entries : List Entry) → Part old old entries
 part-none old entries = record { added = []; missing = entries; now = sym (append-nil old); all = refl }
 
--- What the program has stands for a value by Rel; what is left to do from that value gives the rest of the
--- whole.
+-- The program's value corresponds to a value by Rel; what is left to do from that value gives the rest of the whole.
 pub record Amid {X Y : Type 0} (Rel : X → Type 0) (total : Told Y) (old now : List Entry)
     (rest : X → Told Y) : Type 0 where
   pub value : X
@@ -76,7 +75,7 @@ module _ {X Y : Type 0} (Rel : X → Type 0) (total : Told Y) (old now : List En
         so_far = d.1 ∙ ap (λ (z : List Entry). z ++ es) a.so_far ∙ append_assoc old a.done es;
       }
 
-  -- memory lacked while a thing was done
+  -- memory ran out while a thing was done
   pub amid-err : {Z : Type 0} (rest' : Z → Told Y) (thing : X → Told Z) (new : List Entry) →
       ((x : X) → Rel x → rest x ≡ next_to (thing x) rest') →
       ((x : X) → Rel x → Part now new (thing x).entries) →

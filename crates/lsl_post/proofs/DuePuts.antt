@@ -105,7 +105,7 @@ put-gone script was order new_order times same is_was gone = record {
             let equal : was ≡ at = cc in
             absurd (w equal)
 
--- what is so already
+-- what holds already
 pub put-same : (script : ℕ) (due : Option ℕ) (order : BTreeSet (ℕ × ℕ)) (times : BTreeMap ℕ ℕ)
     → AreSame order times → get nat_cmp times script ≡ due → IsPut script due order order
 put-same script due order times same is_due = record {

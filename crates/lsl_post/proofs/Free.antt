@@ -98,7 +98,7 @@ unfolding numbers_from
 length-numbers zero n = refl
 length-numbers (suc count) n = ap suc (length-numbers count (number_after n))
 
--- where all of these stand, what is among them stands
+-- if all of these are taken, what is among them is taken
 all-stand : (list : List Listen) (ns : List ℤ) → AllByRecursion (λ n. has_number list n ≡ true) ns → (q : ℤ)
     → list_any (int_eq q) ns ≡ true → has_number list q ≡ true
 all-stand list [] all q h = absurd cc
@@ -114,7 +114,7 @@ not-all list n h few all =
     (map number_of list) (numbers-differ (length list + 1) n h (omega arith)) (all-stand list _ all) in
     omega (arith, most, length-numbers (length list + 1) (pos n), length-map list number_of)
 
--- the first free one doesn't stand, unless all do
+-- the first free one isn't taken, unless all are
 pub first-free : (list : List Listen) (ns : List ℤ)
     → (AllByRecursion (λ n. has_number list n ≡ true) ns → ⊥) → has_number list (first_free list ns) ≡ false
 unfolding first_free

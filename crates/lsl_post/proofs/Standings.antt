@@ -1,4 +1,4 @@
--- Listens go on standing: a first part of them, without one, with one active or not, with one more.
+-- Changes of listens: a first part of them, without one, with one active or not, with one more.
 use Rattle.std.proofs.Common.{◌≡◌, ℕ, zero, suc, ◌<◌, ◌≤◌, Bool, true, false, List, [], ◌∷◌, ◌++◌, length, map, take, drop, refl, ap, sym, ◌∙◌, subst, arith}
 use Rattle.std.specs.Prelude.{ℤ, remove}
 use Rattle.std.specs.Cmp.{IsEquivalence}

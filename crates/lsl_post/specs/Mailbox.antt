@@ -22,15 +22,15 @@ pub record Mailbox : Type 0 where
 abbrev pub new_mailbox : Mailbox
 new_mailbox = record { queue = []; listens = no_listens; timing = stopped }
 
--- what becomes of an event: it is unheard where it isn't taken, and where it is a timer event while another
--- waits; else it is dropped where there is no room
+-- the effect of an event: it is unheard if it isn't taken, and if it is a timer event while another waits; otherwise it
+-- is dropped if the queue is full
 abbrev pub posting : Bool → Event → List Event → Posted
 posting taken e queue =
     if taken && not (is_timer e && has_timer queue)
     then (if has_room queue then Queued else Dropped e)
     else Unheard
 
--- the queue then: the event stands last if it is queued
+-- the queue then: the event is last if it is queued
 abbrev pub queue_after : Bool → Event → List Event → List Event
 queue_after taken e queue = if taken && not (is_timer e && has_timer queue) then with_event e queue else queue
 
@@ -47,7 +47,7 @@ taken box = record box { queue = drop 1 box.queue }
 abbrev pub cleared : Mailbox → Mailbox
 cleared box = record box { queue = [] }
 
--- a text that is said is heard
+-- spoken text is heard
 abbrev pub mailbox_hears : Filter → Mailbox → Bool
 mailbox_hears said box = hears said box.listens
 
@@ -67,7 +67,7 @@ is_alive (Dead fault) = false
 abbrev pub takes : List StateCode → ScriptParts → Event → Bool
 takes states parts e = is_alive parts.rest && is_some (handler_of states parts.state e.id)
 
--- what becomes of an event that is posted to a script whose unit has these states, and its parts then
+-- the effect of an event that is posted to a script with a unit of these states, and its parts then
 abbrev pub posted_to : List StateCode → Event → ScriptParts → Posted
 posted_to states e parts = posting (takes states parts e) e parts.queue
 

@@ -12,7 +12,7 @@ most_events = 64
 abbrev pub has_room : List Event → Bool
 has_room queue = nat_lt (length queue) most_events
 
--- the queue after an event is put: it stands last, if there is room
+-- the queue after an event is put: the event is last, if there is room
 abbrev pub with_event : Event → List Event → List Event
 with_event e queue = if has_room queue then queue ++ e ∷ [] else queue
 

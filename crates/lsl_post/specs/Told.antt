@@ -22,12 +22,12 @@ next_to a next = lead a.entries (next a.value)
 abbrev pub as_value : {X Y : Type 0} → (X → Y) → Told X → Told Y
 as_value f a = record { value = f a.value; entries = a.entries }
 
--- one thing for each of so many numbers, in order, from one on
+-- one thing for each of `count` numbers, in order, from one on
 unfoldable pub each : {X : Type 0} → (ℕ → X → Told X) → ℕ → ℕ → X → Told X
 each thing zero first x = quiet x
 each thing (suc count) first x = next_to (thing first x) (λ y. each thing count (first + 1) y)
 
--- one thing again and again, until a value stops it, at most so often
+-- one thing again and again, until a value stops it, at most this often
 unfoldable pub until : {X : Type 0} → (X → Bool) → (X → Told X) → ℕ → X → Told X
 until stops thing zero x = quiet x
 until stops thing (suc most) x =

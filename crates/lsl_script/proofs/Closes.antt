@@ -82,7 +82,7 @@ fails_as codes unit s live fault number c =
     (λ globals. record (parts_of codes (failed (rules_of codes) number s fault).value) { globals = globals })
     (ap (λ (o : Option Code). globals_in o) (sym c.known))
 
--- what the code of a handler's end has in hand
+-- what the code of a handler's end works with
 pub record IsClosing (unit : Code) (live : Live) (kept : Kept) (mid new : ScriptParts) (outcome : Outcome)
     (exits : Bool)
     (going : Going) : Type 0 where

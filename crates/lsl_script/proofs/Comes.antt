@@ -1,4 +1,4 @@
--- What comes of a flight is told of its handler's run from its start.
+-- The result of a flight is the result of its handler's run from its start.
 use Rattle.std.proofs.Common.{◌≡◌, ℕ, suc, ◌+◌, ◌*◌, ◌≤◌, List, ◌++◌, Option, None, Some, length, refl, sym, ap, ◌∙◌, subst, slice_get, arith}
 use Rattle.lsl_running.specs.declared.host.Reply.{Reply}
 use Rattle.lsl_running.specs.Results.{Whole, Asks, Cut, Lost}
@@ -55,7 +55,7 @@ cut_handler codes code state f unit t answers known cut =
     go None is e = absurd cc
     go (Some h) is e = (h, is)
 
--- where it is cut, the run is cut at a machine
+-- if it is cut, the run is cut at a machine
 pub cut_machine : (codes : List Code) (code state : ℕ) (f : Flight) (unit : Code) (h t : ℕ) (answers : List Reply)
     → HasUnit codes code unit → handler_of unit.states state f.event.id ≡ Some h
     → WasCut (flight_whole (rules_of codes) code state f t answers)
@@ -86,7 +86,7 @@ more_given codes code state f unit h known found t more answers (OneGiven before
     OneGiven before r id args (more_given codes code state f unit h known found t more before given)
     (more_ticks_same codes code state f unit h known found t more before (Asks id args) asks (λ calls e. cc)) fits
 
--- and of another meaning that is the same
+-- and for another meaning that is the same
 pub given_as : (c d : List Reply → Whole) → ((answers : List Reply) → c answers ≡ d answers) → (answers : List Reply)
     → AreGiven c answers → AreGiven d answers
 given_as c d same answers NoneGiven = NoneGiven

@@ -1,4 +1,4 @@
--- A handler just begun comes to its first tick, or the script stops before it.
+-- A handler just begun reaches its first tick, or the script stops before it.
 use Rattle.std.proofs.Common.{◌≡◌, ℕ, ◌+◌, List, [], ◌++◌, Bool, true, false, refl, sym, ap, ◌∙◌, subst, append-nil, arith}
 use Rattle.lsl_value.specs.declared.names.BuiltinId.{BuiltinId}
 use Rattle.lsl_value.specs.declared.tagged.Value.{Value}

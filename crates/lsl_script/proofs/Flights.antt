@@ -28,7 +28,7 @@ use Rattle.lsl_script.specs.Lawful.{AreGiven, NoneGiven, OneGiven}
 use Rattle.lsl_script.proofs.RunKeeps.{Kept as KeptBy, KeptAt, run_keeps}
 use Rattle.lsl_script.proofs.Units.{sound}
 
--- no answers are left behind a step
+-- no answers are left after a step
 abbrev Silent : Next → Type 0
 Silent (On m) = m.answers ≡ []
 Silent (Pauses (Passing m)) = m.answers ≡ []
@@ -63,7 +63,7 @@ step_silent bodies g (c ∷ outer) =
     after_silent (act bodies (instruction_at bodies c.function c.place) g (base outer) c.slots c.operands) g c.function
     c.place c.slots c.operands outer
 
--- the step that takes the only answer leaves none, and is no pause
+-- the step that takes the only answer leaves none, and isn't a pause
 abbrev Answered : Next → Type 0
 Answered (On m) = m.answers ≡ []
 Answered (Pauses x) = ⊥
@@ -196,7 +196,7 @@ module _ (unit : Code) where
   on_answered t m (Pauses x) k s = absurd s
   on_answered t m (Halts e) k s = k
 
-  -- on with an answer that was waited for
+  -- continues with an answer that was waited for
   pub answered_keeps : (t : ℕ) (m : Machine) (id : BuiltinId) (args : List Value) (r : Reply) → Quiet m
       → step (bodies_of unit) m ≡ Pauses (Waiting id args) → Answers id r
       → KeptAt Quiet QuietEnd (bodies_of unit) (run (bodies_of unit) t (with_answers (r ∷ []) m))
@@ -213,7 +213,7 @@ module _ (unit : Code) where
       (on_answered t n (step bodies n) k (step_waited bodies r m.kept m.calls id args waits')))
 
   module _ (m0 : Machine) (quiet : Quiet m0) (t : ℕ) where
-    -- a run whose answers were all asked for keeps all kinds right, and no answer is left where it halts
+    -- a run with answers to its own calls keeps all kinds right, and no answer is left where it halts
     pub given_keeps : (answers : List Reply)
         → AreGiven (λ a. told (bodies_of unit) (run (bodies_of unit) t (with_answers a m0))) answers
         → KeptAt Quiet QuietEnd (bodies_of unit) (run (bodies_of unit) t (with_answers answers m0))

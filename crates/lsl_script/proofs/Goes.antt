@@ -1,4 +1,4 @@
--- Where a script goes whose handler ended.
+-- Where a script goes after its handler ended.
 use Rattle.std.proofs.Common.{◌≡◌, ◌≢◌, ℕ, ◌+◌, ◌<◌, ◌≤◌, List, [], Bool, true, false, Option, None, Some, length, min, refl, sym, ap, ◌∙◌, subst, eq-eqb, arith}
 use Rattle.std.proofs.lemmas.Bool.{false≢true}
 use Rattle.std.specs.Prelude.{if◌then◌else◌, is_some, nat_eq}

@@ -68,7 +68,7 @@ gives_anew held sl ops g least small = go (is_within g (used (hold_all held ops)
       record { least = least; limit = small; charge = omega arith }
   go false e = tt
 
--- a limit that was got is one that a script may have, and the globals are charged within it
+-- a limit that was set is one that a script may have, and the globals are charged within it
 limit_left : (held : ℕ) (sl rest : List Value) (g : Kept) → IsLeft g → 1024 ≤ held → (n : ℤ) (limit : Option ℕ)
     → granted n (used (hold_all held rest) sl g) ≡ limit → Left (gives_limit limit held sl rest g)
 limit_left held sl rest g h low n None got = gives_left held sl (grant_value None ∷ rest) g h

@@ -36,7 +36,7 @@ module _ (codes : List Code) (m : Meant codes) where
   in_routine code f ticks answers known None = refl
   in_routine code f ticks answers known (Some routine) = m.whole code routine f.kept f.event.args ticks answers known
 
-  -- what comes of a flight
+  -- the result of a flight
   pub flight_same : (code state : ℕ) (f : Flight) (ticks : ℕ) (answers : List Reply) → code < length codes
       → flight_whole m.rules code state f ticks answers ≡ flight_whole (rules_of codes) code state f ticks answers
   flight_same code state f ticks answers known =

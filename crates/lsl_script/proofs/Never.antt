@@ -1,4 +1,4 @@
--- A handler in flight whose answers were asked for comes to something.
+-- A handler in flight with answers to its own calls has a result.
 use Rattle.std.proofs.Common.{◌≡◌, ℕ, List, [], Bool, true, false, cond, Option, None, Some, refl, sym, ap, ◌∙◌, subst, slice_get}
 use Rattle.std.specs.Prelude.{is_some}
 use Rattle.std.proofs.lemmas.Bool.{false≢true}

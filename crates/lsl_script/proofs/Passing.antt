@@ -1,4 +1,4 @@
--- An awake script passes the tick at which it stands.
+-- An awake script passes the current tick.
 use Rattle.std.proofs.Common.{◌≡◌, ℕ, false, ◌+◌, ◌-◌, ◌<◌, ◌≤◌, List, [], ◌++◌, refl, sym, ap, ◌∙◌, subst, arith}
 use Rattle.lsl_running.specs.declared.host.Reply.{Reply}
 use Rattle.lsl_code.specs.declared.woven_units.Woven.{Woven as Code}
@@ -18,7 +18,7 @@ use Rattle.lsl_script.proofs.Comes.{more_given}
 use Rattle.lsl_script.proofs.Running.{begun_runs_so, source_on}
 use Rattle.lsl_script.proofs.Staying.{goes_way, on_way_goes}
 
--- the machine behind its tick
+-- the machine after its tick
 pub record HasPassed (unit : Code) (old new : State) : Type 0 where
   pub stands : old.standing ≡ standing.AtTick
   pub runs : (ticks : ℕ) (answers : List Reply)
@@ -61,7 +61,7 @@ module _ (unit : Code) (live : Live) (new : State) (p : HasPassed unit live.mach
     begun = begun_runs_so new.standing live.fresh p.able;
   }
 
-  -- it stands at a tick again
+  -- it is at a tick again
   pub passed_turns : new.standing ≡ standing.AtTick → StandsCut (bodies_of unit) new → (codes : List Code)
       (s : Script) (f : Flight) → Rests codes unit s f live
       → Turns codes unit s f turn.AtTick (record live { machine = new })
@@ -80,7 +80,7 @@ module _ (unit : Code) (live : Live) (new : State) (p : HasPassed unit live.mach
         silent = p.silent;
       }) rests.lives refl
 
-  -- or it can go on
+  -- or it can continue
   pub passed_lives : new.standing ≡ standing.Ready → (codes : List Code) (s : Script) (f : Flight)
       → Rests codes unit s f live → Lives codes unit s f (record live { machine = new })
   passed_lives ready codes s f rests =

@@ -36,7 +36,7 @@ at_tick_kinded : (unit : Code) (z : Standing) (m : Machine) → z ≡ standing.A
     → IsKinded unit m × ((n : Machine) × (step (bodies_of unit) m ≡ Pauses (Passing n)))
 at_tick_kinded unit z m at of = subst (λ x. IsIn unit x m) at of
 
--- the run is cut where the machine stands
+-- the run is cut at the machine's place
 cut_here : (unit : Code) (m n : Machine) → m.answers ≡ [] → step (bodies_of unit) m ≡ Pauses (Passing n)
     → run (bodies_of unit) 0 (with_answers [] m) ≡ CutAt m
 cut_here unit m n silent passes =
@@ -108,7 +108,7 @@ rested_is codes unit s f live kept frames r same are =
     }) has
     ∙ ap {A = Rest} {B = ScriptParts} (λ x. record (parts_of codes s) { rest = x }) rest
 
--- what an awake script stands for doesn't depend on its machine's room
+-- what an awake script represents doesn't depend on its machine's capacity
 pub rests_in_room : (codes : List Code) (unit : Code) (s : Script) (f : Flight) (live : Live) (room : ℕ)
     → Rests codes unit s f live → Rests codes unit s f (with_room live room)
 rests_in_room codes unit s f live room r =

@@ -10,7 +10,7 @@ use Rattle.lsl_code.proofs.Ranks.{left}
 use Rattle.lsl_code.proofs.Running.{Falls, step_falls, run_law}
 
 module _ (P : Machine → Type 0) (E : End → Type 0) where
-  -- what comes of one step
+  -- the result of one step
   abbrev pub Kept : Next → Type 0
   Kept (On m) = P m
   Kept (Pauses (Passing m)) = P m

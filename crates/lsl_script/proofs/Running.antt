@@ -68,7 +68,7 @@ halt_outcome (halt.Ended other) live way e = let same : other ≡ way = cc in ap
 halt_outcome (halt.Faulted fault) live way e = absurd cc
 halt_outcome halt.NoMemory live way e = absurd cc
 
--- what the machine's run told, beside a script whose other fields stay
+-- what the machine's run showed, beside a script whose other fields stay
 pub record IsRun (unit : Code) (old : State) (h : Answer) (new : State) : Type 0 where
   pub runs : RunsOn (bodies_of unit) old h new
   pub stands : new.standing ≡ standing_of h
@@ -94,7 +94,7 @@ pub halt_run : (unit : Code) (old : State) (h : Answer) (mid : Live) → IsRun u
     → IsRun unit old h (with_halt h mid).machine
 halt_run unit old h mid r = subst (IsRun unit old h) (sym (halt_machine h mid)) r
 
--- a script whose handler isn't just begun
+-- a script with a handler that isn't just begun
 pub begun_so : (z : Standing) (fresh : Bool) → fresh ≡ false → HasBegun z fresh
 begun_so (standing.Asking id) fresh e = e
 begun_so z fresh e = tt

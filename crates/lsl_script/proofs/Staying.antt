@@ -24,7 +24,7 @@ use Rattle.lsl_script.proofs.Flights.{QuietEnd, Quiet, quiet_keeps}
 use Rattle.lsl_script.proofs.RunKeeps.{KeptAt}
 use Rattle.lsl_script.proofs.Turning.{Behind, behind}
 
--- what can run goes on as it does
+-- what can run continues as it does
 pub on_way_goes : (z : Standing) (bodies : List Body) (comes : Run) (ticks : ℕ) (given : List Reply) (s : State)
     → CanRun z → IsOnWayAs z bodies comes ticks given s → GoesOnAs bodies comes ticks given s
 on_way_goes standing.Ready bodies comes ticks given s can on = on
@@ -106,7 +106,7 @@ ended_kinds unit standing.AtTick m way kept can of none e = ran unit m 1 way kep
 ended_kinds unit standing.Full m way kept can of none e = absurd cc
 ended_kinds unit z m way kept can of none e = absurd can
 
--- where it stands after a turn
+-- where it is after a turn
 pub stands_after : (unit : Code) (old new : Live) (h : Answer) → IsAwake unit old → CanRun old.machine.standing
     → RunsOn (bodies_of unit) old.machine h new.machine → new.machine.standing ≡ standing_of h → IsAsked h
     → h ≢ halt.Faulted TooManyListens → ((way : Outcome) → h ≡ halt.Ended way → new.outcome ≡ Some way)

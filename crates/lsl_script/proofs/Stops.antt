@@ -1,4 +1,4 @@
--- A script that stands at the tick of its flight.
+-- A script at the tick of its flight.
 use Rattle.std.proofs.Common.{◌≡◌, ℕ, ◌+◌, List, sym, ap, ◌∙◌, subst, arith}
 use Rattle.std.specs.Prelude.{nat_le}
 use Rattle.lsl_code.specs.declared.woven_units.Woven.{Woven as Code}
@@ -42,7 +42,7 @@ rests_lawful codes unit s f live r = record {
   doing = subst (IsLawfulDoing (rules_of codes) s.code s.state) (sym r.flies) (rests_flight codes unit s f live r);
 }
 
--- and asks at most so often before its next tick
+-- and makes at most this many calls before its next tick
 pub rests_asks : (codes : List Code) (unit : Code) (s : Script) (f : Flight) (live : Live) → Rests codes unit s f live
     → AsksAtMost (rules_of codes) s.code s.state f ((rules_of codes).most s.code)
 rests_asks codes unit s f live r =

@@ -123,7 +123,7 @@ flight_saved codes code state unit f handler m known found lawful cut =
     (flight_is codes code state f unit handler known found f.ticks) f.answers lawful.given)
     (chain_begun (bodies_of unit) (sound unit).forward handler f.kept f.event.args f.ticks f.answers m cut)
 
--- it is the machine that was saved
+-- it is the saved machine
 pub record IsTakenUp (codes : List Code) (unit : Code) (s : Script) (e : Event) (handler : ℕ) (kept : Kept)
     (frames : List Frame) : Type 0 where
   pub flight : Flight

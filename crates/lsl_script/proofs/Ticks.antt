@@ -58,7 +58,7 @@ passes_in bodies g c outer next (Some i) is e =
     c.operands outer next (act_by bodies i g (base outer) c.slots c.operands) e in
     (t.0, is ∙ ap Some t.1)
 
--- what passes a tick stands at one
+-- what passes a tick is at one
 pub at_tick : (bodies : List Body) (g : Kept) (calls : List MachineCall) (next : Machine)
     → step_in bodies g [] calls ≡ Pauses (Passing next) → IsAtTick bodies calls
 at_tick bodies g [] next e = absurd cc
@@ -112,7 +112,7 @@ module _ (bodies : List Body) (forward : Forward bodies) (f : ℕ) (kept : Kept)
   pub not_early : (args : List Value) → NotEarly (run_of bodies f kept args 0 [])
   not_early args = started_early (slice_get bodies f) args refl
 
--- a handler's run goes on from where it is cut
+-- a handler's run continues from where it is cut
 module _ (bodies : List Body) (forward : Forward bodies) (f : ℕ) (kept : Kept) (m : Machine) (t k : ℕ)
     (answers more : List Reply)
   where

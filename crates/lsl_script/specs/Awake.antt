@@ -31,7 +31,7 @@ use Rattle.lsl_script.specs.Fitting.{FitsStates, IsInHand, least_limit}
 abbrev pub Run : Type 0
 Run = ℕ → List Reply → Halt
 
--- after so many ticks and these answers the run goes on as this machine does
+-- after this many ticks and these answers the run continues as this machine does
 pub record GoesOnAs (bodies : List Body) (comes : Run) (ticks : ℕ) (given : List Reply) (s : State) : Type 0 where
   pub same : (more : ℕ) (answers : List Reply)
       → comes (ticks + more) (given ++ answers) ≡ halt_from s.standing bodies s.machine more answers
@@ -50,7 +50,7 @@ pub record IsRunOf (bodies : List Body) (handler : ℕ) (comes : Run) : Type 0 w
   pub ended : (ticks : ℕ) (answers : List Reply) (way : Outcome) (kept : Kept)
       → comes ticks answers ≡ Over (Ended way kept) → IsLeft kept
 
--- after so many ticks and these answers the run goes on as this machine does, once it has its answer
+-- after this many ticks and these answers the run continues as this machine does, once it has its answer
 pub record AnswersAs (bodies : List Body) (comes : Run) (ticks : ℕ) (given : List Reply) (s : State) : Type 0 where
   pub same : (more : ℕ) (r : Reply) (answers : List Reply)
       → comes (ticks + more) (given ++ r ∷ answers) ≡ halt_from s.standing bodies s.machine more (r ∷ answers)
@@ -71,7 +71,7 @@ pub record IsRunning (bodies : List Body) (handler : ℕ) (s : State) : Type 0 w
   pub given : List Reply
   pub on_way : IsOnWayAs s.standing bodies run ticks given s
 
--- a script that waits for an answer has gone on since its handler was begun
+-- a script that waits for an answer has continued since its handler was begun
 abbrev pub HasBegun : Standing → Bool → Type 0
 HasBegun (standing.Asking id) fresh = fresh ≡ false
 HasBegun s fresh = Unit {0}
@@ -85,7 +85,7 @@ pub record IsAwake (unit : Code) (live : Live) : Type 0 where
   pub running : IsRunning (bodies_of unit) live.handler live.machine
   pub begun : HasBegun live.machine.standing live.fresh
 
--- the handler ended so: it left globals of their kinds, and a state to which it goes is there
+-- the handler ended this way: it left globals of their kinds, and a state to which it goes is there
 pub record HasLeft (unit : Code) (way : Outcome) (kept : Kept) : Type 0 where
   pub kinds : kinds_of kept.globals ≡ kinds_of unit.globals
   pub left : IsLeft kept
@@ -98,12 +98,12 @@ HasEndedAs unit outcome s kept = ⊥
 abbrev pub HasEnded : Code → Live → Type 0
 HasEnded unit live = HasEndedAs unit live.outcome live.machine.standing live.machine.machine.kept
 
--- what is asked for is a call that the host answers, with arguments of its kinds
+-- the pending call is one that the host answers, with arguments of its kinds
 pub record IsAskedFor (call : Call) : Type 0 where
   pub asked : is_asked (call_form call.id) ≡ true
   pub kinds : kinds_of call.args ≡ (row_of call.id).params
 
--- where the script stands after a turn
+-- where the script is after a turn
 abbrev pub StandsAfter : Code → Turn → Live → Type 0
 StandsAfter unit (turn.Asks call) live = (live.machine.standing ≡ standing.Asking call.id) × IsAskedFor call
 StandsAfter unit turn.AtTick live = live.machine.standing ≡ standing.AtTick

@@ -1,4 +1,4 @@
--- What a handler's end does to a script's parts, and what it comes to.
+-- What a handler's end does to a script's parts, and the result.
 use Rattle.std.specs.Prelude.{◌≡◌, ℕ, List, [], length, Option, Some, None}
 use Rattle.lsl_value.specs.declared.names.EventId.TheVariants as event
 use Rattle.lsl_running.specs.declared.ends.Outcome.{Outcome}
@@ -56,19 +56,20 @@ gone_parts unit (Leaves to) parts = record parts { leaving = Some to }
 gone_parts unit (Enters to) parts = entering unit.states to parts
 gone_parts unit Restarts parts = begun_again unit parts
 
--- where a script goes whose handler ended so
+-- where a script goes after its handler ended this way
 abbrev pub going_after : Code → ScriptParts → Outcome → Going
 going_after unit parts way =
     going_of parts.leaving parts.state (has_handler unit.states parts.state event.StateExit) way
 
--- how many events went, where they went: where the script stands in a new state, or began again
+-- how many events went, if any could: the script is in a new state, or began again
 abbrev pub count_gone : Going → List Event → Option ℕ
 count_gone Stays queue = None
 count_gone (Leaves to) queue = None
 count_gone (Enters to) queue = Some (length queue)
 count_gone Restarts queue = Some (length queue)
 
--- the script, the charge and the events that went are those of the source script's handler that ended so and left this
+-- the script, the charge and the events that went are those of the source script after its handler ended this way and
+-- left this
 pub record ClosesAs (codes : List Code) (number : ℕ) (s : Script) (kept : Kept) (way : Outcome) (closed : Closed)
     : Type 0 where
   pub script : closed.script ≡ parts_of codes (ended (rules_of codes) number s kept way).value

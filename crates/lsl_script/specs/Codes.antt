@@ -41,8 +41,8 @@ rules_of codes = record {
   most = λ code. most_asks (bodies_in (slice_get codes code));
 }
 
--- Rules that say of these units what the units' own rules say, with no smaller bound of asks. Nothing is asked of them
--- outside the units' numbers.
+-- Rules that say of these units what the units' own rules say, with no smaller bound of calls. Nothing is required of
+-- them outside the units' numbers.
 pub record Meant (codes : List Code) : Type 0 where
   pub rules : Rules
   pub handler : (code state : ℕ) (id : EventId) → code < length codes

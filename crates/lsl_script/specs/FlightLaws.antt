@@ -7,15 +7,15 @@ use Rattle.lsl_script.specs.Codes.{HasUnit, rules_of}
 use Rattle.lsl_script.specs.Lawful.{AreGiven, AsksAtMost, IsKept, IsLawfulFlight, flight_whole}
 use Rattle.lsl_script.specs.Scripts.{Flight, handles}
 
--- a handler that stands at a tick asks at most so often before its next one
+-- a handler at a tick makes at most this many calls before its next one
 abbrev pub FlightsAskSoOften : Type 0
 FlightsAskSoOften =
     (codes : List Code) (code : ℕ) (unit : Code) (state : ℕ) (f : Flight) → HasUnit codes code unit
     → IsLawfulFlight (rules_of codes) code state f
     → AsksAtMost (rules_of codes) code state f ((rules_of codes).most code)
 
--- a handler that its code has, begun with globals of their kinds, comes to something with the answers that it asked
--- for: it is cut, asks, ends or stops, and is never lost
+-- a handler that its code has, begun with globals of their kinds, has a result with answers to its own calls: it is
+-- cut, asks, ends or stops, and is never lost
 abbrev pub FlightsAreNeverLost : Type 0
 FlightsAreNeverLost =
     (codes : List Code) (code : ℕ) (unit : Code) (state : ℕ) (f : Flight) (ticks : ℕ) (answers : List Reply)

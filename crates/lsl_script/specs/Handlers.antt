@@ -1,4 +1,4 @@
--- A script takes an event, and its handler goes on, ends or stops.
+-- A script takes an event, and its handler continues, ends or stops.
 use Rattle.std.specs.Prelude.{ℕ, ◌+◌, Bool, nat_eq, if◌then◌else◌, List, [], ◌∷◌, ◌++◌, length, Option, Some, None}
 use Rattle.lsl_value.specs.declared.names.EventId.TheVariants as event
 use Rattle.lsl_running.specs.declared.ends.Fault.{Fault}
@@ -44,7 +44,7 @@ take_next number s Resting = with_event_due number s (event_due s.leaving s.mail
 take_next number s (Flying f) = quiet s
 take_next number s (Stopped fault) = quiet s
 
--- what comes of a handler in flight for so many ticks and these answers
+-- the result of a handler in flight for this many ticks and these answers
 abbrev pub whole_of_flight : Rules → Script → Flight → ℕ → List Reply → Whole
 whole_of_flight r s f ticks answers =
     whole_in r s.code (r.handler s.code s.state f.event.id) f.kept f.event.args ticks answers
@@ -59,8 +59,8 @@ given reply f = record f { answers = f.answers ++ reply ∷ [] }
 abbrev pub with_flight : Flight → Script → Script
 with_flight f s = record s { doing = Flying f }
 
--- from this state, which has a handler of its exit or has none. To go to the state in which it stands is to return, and
--- so is any change of state in the handler of an exit
+-- from this state, with a handler of its exit or without. To go to the state in which it is is to return, and so is any
+-- change of state in the handler of an exit
 abbrev pub going_from : ℕ → Bool → Outcome → Going
 going_from state exits outcome.Return = Stays
 going_from state exits (outcome.StateTo n) = if nat_eq n state then Stays else (if exits then Leaves n else Enters n)
@@ -75,11 +75,11 @@ abbrev pub going_of : Option ℕ → ℕ → Bool → Outcome → Going
 going_of None state exits ended = going_from state exits ended
 going_of (Some n) state exits ended = going_on n ended
 
--- queue and listens go, and the numbers of listens and the timer go on
+-- queue and listens go; the numbers of listens and the timer stay
 abbrev pub emptied : Mailbox → Mailbox
 emptied box = record (cleared box) { listens = standing box.listens.next [] }
 
--- in a new state, whose entry is posted
+-- in a new state, with its entry posted
 abbrev pub entered : Rules → ℕ → Script → Script
 entered r n s = record s {
   state = n;
@@ -88,7 +88,7 @@ entered r n s = record s {
   doing = Resting;
 }
 
--- the script of this number goes there; the journal tells how many events went
+-- the script of this number goes there; the journal says how many events went
 abbrev pub gone : Rules → ℕ → Script → Going → Told Script
 gone r number s Stays = quiet (record s { doing = Resting })
 gone r number s (Leaves n) = quiet (record s { leaving = Some n; doing = Resting })
@@ -101,7 +101,7 @@ gone r number s Restarts =
 abbrev pub resting_charge : Kept → ℕ
 resting_charge kept = script_charge + charges_of kept.globals
 
--- the handler in flight ended so, and left this
+-- the handler in flight ended this way, and left this
 abbrev pub ended : Rules → ℕ → Script → Kept → Outcome → Told Script
 ended r number s kept outcome =
     lead (entry.Done number (resting_charge kept) ∷ [])

@@ -12,7 +12,7 @@ use Rattle.lsl_post.specs.Timing.{Timing, fits_timer}
 use Rattle.lsl_script.specs.Rules.{Rules, whole_in}
 use Rattle.lsl_script.specs.Scripts.{Flight, Doing, Resting, Flying, Stopped, Script}
 
--- what comes of a handler in flight in this state, for so many ticks and these answers
+-- the result of a handler in flight in this state, for this many ticks and these answers
 abbrev pub flight_whole : Rules → (code state : ℕ) → Flight → ℕ → List Reply → Whole
 flight_whole r code state f ticks answers =
     whole_in r code (r.handler code state f.event.id) f.kept f.event.args ticks answers
@@ -23,14 +23,14 @@ WasCut w = (calls : List ActiveCall) × (w ≡ Cut calls)
 abbrev pub HasAsked : Whole → Type 0
 HasAsked w = (id : BuiltinId) × (args : List Value) × (w ≡ Asks id args)
 
--- each answer was asked for where those before it were given, and is one to that call
+-- each answer was asked for after those before it, and is one to that call
 pub data AreGiven (comes : List Reply → Whole) : List Reply → Type 0 where
   NoneGiven : AreGiven comes []
   OneGiven : (before : List Reply) (r : Reply) (id : BuiltinId) (args : List Value)
       → AreGiven comes before → comes before ≡ Asks id args → Answers id r
       → AreGiven comes (before ++ r ∷ [])
 
--- the globals have the kinds of the code's, and the limit is no greater than the first
+-- the globals have the kinds of the code's, and the limit is at most the first
 pub record IsKept (r : Rules) (code : ℕ) (kept : Kept) : Type 0 where
   pub globals : kinds_of kept.globals ≡ kinds_of (r.initial code)
   pub limit : kept.limit ≤ default_limit
@@ -53,7 +53,7 @@ pub record Lawful (r : Rules) (s : Script) : Type 0 where
   pub timing : IsTiming s.mailbox.timing
   pub doing : IsLawfulDoing r s.code s.state s.doing
 
--- with so many answers more the handler asks no more before its next tick
+-- with this many answers more the handler makes no more calls before its next tick
 abbrev pub AsksAtMost : Rules → (code state : ℕ) → Flight → ℕ → Type 0
 AsksAtMost r code state f n =
     (replies : List Reply) → n ≤ length replies

@@ -15,7 +15,7 @@ use Rattle.lsl_script.specs.Scripts.{Script, fresh, is_ready, state_exit, takes}
 use Rattle.lsl_script.specs.declared.going.Going.TheVariants.{Stays, Enters}
 use Rattle.lsl_script.specs.Handlers.{ended, entered, event_due, failed, going_from, going_of, resting_charge}
 
--- a change to the state in which a script stands is a return
+-- a change to the state in which a script is already is a return
 abbrev pub SameStateIsReturn : Type 0
 SameStateIsReturn = (state : ℕ) (exits : Bool) → going_from state exits (outcome.StateTo state) ≡ Stays
 
@@ -62,7 +62,7 @@ pub record IsDead (r : Rules) (number : ℕ) (s : Script) (fault : Fault) : Type
 abbrev pub FaultsAreForGood : Type 0
 FaultsAreForGood = (r : Rules) (number : ℕ) (s : Script) (fault : Fault) → IsDead r number s fault
 
--- the charge is told of what the handler left, before anything else becomes of the script
+-- the charge is that of what the handler left, and is reported before anything else happens to the script
 abbrev pub ChargeComesFirst : Type 0
 ChargeComesFirst =
     (r : Rules) (number : ℕ) (s : Script) (kept : Kept) (o : Outcome)

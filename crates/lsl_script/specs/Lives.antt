@@ -1,4 +1,4 @@
--- What an awake script stands for: a source script with a handler in flight.
+-- What an awake script represents: a source script with a handler in flight.
 use Rattle.std.specs.Prelude.{◌≡◌, ℕ, ◌+◌, Bool, true, false, List, [], ◌∷◌, ◌++◌, Option, Some, None}
 use Rattle.lsl_value.specs.declared.names.BuiltinId.{BuiltinId}
 use Rattle.lsl_value.specs.declared.tagged.Value.{Value}
@@ -52,7 +52,7 @@ pub record Carries (codes : List Code) (unit : Code) (s : Script) (live : Live) 
   pub timing : IsTiming s.mailbox.timing
   pub alive : is_alive s.doing ≡ true
 
--- and the event in hand, with which the script's flight began, and its handler
+-- and the current event, which began the script's flight, and its handler
 pub record Handles (codes : List Code) (unit : Code) (s : Script) (f : Flight) (live : Live) : Type 0 where
   pub held : Flight
   pub flies : s.doing ≡ Flying held
@@ -75,7 +75,7 @@ abbrev pub IsFresh : Bool → Standing → ℕ → List Reply → Type 0
 IsFresh true s ticks answers = (ticks_passed s ≡ 0) × (ticks ≡ 0) × (answers ≡ [])
 IsFresh false s ticks answers = Unit {0}
 
--- it can go on to the next tick of this flight
+-- it can continue to the next tick of this flight
 pub record Lives (codes : List Code) (unit : Code) (s : Script) (f : Flight) (live : Live) : Type 0 where
   pub carries : Carries codes unit s live
   pub handles : Handles codes unit s f live
@@ -99,7 +99,7 @@ pub record Waits (codes : List Code) (unit : Code) (s : Script) (f : Flight) (id
     pub stop : (fault : Fault) → flight_whole (rules_of codes) s.code s.state f (f.ticks + 1)
         (f.answers ++ reply.Stop fault ∷ []) ≡ whole.Fails fault
 
--- it stands at the tick of this flight, which the script has
+-- it is at the tick of this flight, which the script has
 pub record Rests (codes : List Code) (unit : Code) (s : Script) (f : Flight) (live : Live) : Type 0 where
   pub lives : Lives codes unit s f live
   pub flies : s.doing ≡ Flying f
@@ -129,7 +129,7 @@ Turns codes unit s f (turn.Faulted fault) live =
     × Carries codes unit s live
 Turns codes unit s f turn.NoMemory live = Unit {0}
 
--- the journal tells of the event that was taken
+-- the journal reports the event that was taken
 abbrev pub entries_of_taking : ℕ → Option Event → List Entry
 entries_of_taking number None = []
 entries_of_taking number (Some e) = entry.Took number e ∷ []

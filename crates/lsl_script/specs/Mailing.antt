@@ -1,4 +1,3 @@
--- What an awake script does to its mailbox, and what its source does.
 use Rattle.std.specs.Prelude.{ℕ, Some}
 use Rattle.std.specs.Borrow.{Lends, MutBor, Fml}
 use Rattle.lsl_machine.specs.declared.standing.Halt.{Halt}

@@ -16,7 +16,6 @@ use Rattle.lsl_post.specs.Timing.{Timing, fits_timer}
 use Rattle.lsl_script.specs.Codes.{bodies_in, handler_in_unit}
 use Rattle.lsl_script.specs.Scripts.{Flight, Doing, Resting, Flying, Stopped, Script}
 
--- the machine at which a run is cut or asks
 abbrev pub machine_in : Kept → Halt → Machine
 machine_in kept (CutAt m) = m
 machine_in kept (AskAt id args m t) = m
@@ -26,7 +25,6 @@ abbrev pub run_in : List Body → Option ℕ → Flight → Halt
 run_in bodies None f = Over Lost
 run_in bodies (Some handler) f = run_of bodies handler f.kept f.event.args f.ticks f.answers
 
--- the machine that a handler's code reaches from its start, with the flight's ticks and answers
 abbrev pub machine_at : Option Code → ℕ → Flight → Machine
 machine_at unit state f = machine_in f.kept (run_in (bodies_in unit) (handler_in_unit unit state f.event.id) f)
 

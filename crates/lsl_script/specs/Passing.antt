@@ -1,4 +1,4 @@
--- Segments that a script which is awake passes one after another, on integers and calls of functions alone.
+-- Segments that an awake script passes one after another, on integers and calls of functions alone.
 use Rattle.std.specs.Prelude.{◌+◌, ℕ, Bool, true, false, List}
 use Rattle.lsl_code.specs.declared.woven_units.Woven.{Woven as Code}
 use Rattle.lsl_machine.specs.Memory.{TakesNone}
@@ -15,7 +15,7 @@ pub record PassesSegment (unit : Code) (old new : Live) : Type 0 where
   pub source : (codes : List Code) (s : Script) (f : Flight) → Rests codes unit s f old
       → Turns codes unit s f turn.AtTick new
 
--- so many
+-- `count` of them
 pub data PassesSegments (unit : Code) : ℕ → Live → Live → Type 0 where
   NoSegment : (live : Live) → PassesSegments unit 0 live live
   OneMore : (n : ℕ) (old mid new : Live) → PassesSegments unit n old mid → PassesSegment unit mid new
@@ -25,10 +25,10 @@ pub data PassesSegments (unit : Code) : ℕ → Live → Live → Type 0 where
 pub record PassesPart (unit : Code) (old new : Live) : Type 0 where
   pub beside : IsBeside old new
   pub source : (codes : List Code) (s : Script) (f : Flight) → Rests codes unit s f old → Lives codes unit s f new
-  -- on integers alone, but to enter a function and to ask, going on from there takes no memory
+  -- on integers alone it takes no memory to continue from there, except to enter a function and to make a host call
   pub memory : TakesNone (bodies_of unit) old.machine → TakesNone (bodies_of unit) new.machine
 
--- so many, and then the script stands at a tick, or within the next one
+-- `count` of them, and then the script is at a tick, or within the next one
 abbrev pub PassesTo : Bool → Code → ℕ → Live → Live → Type 0
 PassesTo true unit n old new = PassesSegments unit n old new
 PassesTo false unit n old new = (mid : Live) × PassesSegments unit n old mid × PassesPart unit mid new

@@ -17,7 +17,7 @@ use Rattle.lsl_script.specs.Parts.{timer_of}
 abbrev pub keeping : Kept → ScriptParts → ScriptParts
 keeping kept parts = record parts { globals = kept.globals; limit = kept.limit }
 
--- at a tick: the handler of the event in hand is saved as these calls, and all else that waits stays
+-- at a tick: the handler of the current event is saved as these calls, and all else that waits stays
 abbrev pub saved_parts : ScriptParts → Kept → Event → List Frame → ScriptParts
 saved_parts parts kept e frames = record parts { globals = kept.globals; limit = kept.limit; rest = Saved e frames }
 
@@ -33,6 +33,6 @@ failed_parts unit fault parts = record parts {
   rest = Dead fault;
 }
 
--- while it stays awake: all is as it was, but for how many values its machine has room
+-- while it stays awake: all is unchanged, except the capacity of its machine
 abbrev pub with_room : Live → ℕ → Live
 with_room live room = record live { machine = record live.machine { room = room } }

@@ -1,4 +1,4 @@
--- What is asked of the code of a script: of a unit, or of a program. Codes are known by their numbers.
+-- What the meaning needs of the code of a script: of a unit, or of a program. Codes are known by their numbers.
 use Rattle.std.specs.Prelude.{◌≡◌, ◌≢◌, ℕ, ◌+◌, List, ◌++◌, Option, Some, None}
 use Rattle.lsl_value.specs.declared.names.BuiltinId.{BuiltinId}
 use Rattle.lsl_value.specs.declared.names.EventId.{EventId}
@@ -13,9 +13,9 @@ pub record Rules : Type 0 where
   pub handler : (code state : ℕ) → EventId → Option ℕ
   -- what the globals hold at first
   pub initial : (code : ℕ) → List Value
-  -- what comes of a routine from its start, for arguments, a number of ticks and a list of answers
+  -- the result of a routine from its start, for arguments, a number of ticks and a list of answers
   pub whole : (code routine : ℕ) → Kept → List Value → ℕ → List Reply → Whole
-  -- how often a routine asks at most between two ticks
+  -- the most calls that a routine makes between two ticks
   pub most : (code : ℕ) → ℕ
 
 -- what a script keeps at its start, and again after a reset or a fault

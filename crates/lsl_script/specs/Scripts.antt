@@ -1,5 +1,5 @@
--- A script as its text means it: it knows no instruction, frame or place in code. A handler in flight is the event
--- with which it began, and how far it has come: the ticks that it passed and the answers that it was given.
+-- A script as its text means it: it knows no instruction, frame or place in code. A handler in flight is the event with
+-- which it began, and its progress: the ticks that it passed and the answers that it was given.
 use Rattle.std.specs.Prelude.{ℕ, Bool, true, false, ◌&&◌, ◌||◌, nat_le, nat_lt, if◌then◌else◌, List, [], ◌∷◌, length, Option, None, is_some, refl}
 use Rattle.lsl_value.specs.declared.names.EventId.{EventId}
 use Rattle.lsl_value.specs.declared.names.EventId.TheVariants as event
@@ -62,7 +62,7 @@ state_exit = record { id = event.StateExit; args = []; toucher = None; fits = re
 abbrev pub timer_event : Event
 timer_event = record { id = event.Timer; args = []; toucher = None; fits = refl }
 
--- the journal tells of an event that is dropped
+-- the journal reports an event that is dropped
 abbrev pub entries_of_posting : ℕ → Posted → List Entry
 entries_of_posting number Queued = []
 entries_of_posting number (Dropped e) = entry.Drop number e ∷ []
@@ -75,7 +75,7 @@ post_to r number e s = record {
   entries = entries_of_posting number (posting (takes r s e) e s.mailbox.queue);
 }
 
--- the timer is read: where it is due its event is posted, and it is due again one period after the reading
+-- the timer is read: if it is due its event is posted, and it is due again one period after the reading
 abbrev pub ring_to : Rules → ℕ → ℕ → Script → Told Script
 ring_to r number clock s =
     if timer_due clock s.mailbox
@@ -91,7 +91,7 @@ can_go_on clock s (Stopped fault) = false
 abbrev pub is_ready : ℕ → Script → Bool
 is_ready clock s = can_go_on clock s s.doing
 
--- a script at its start, with this time of waking: it stands in its first state, whose entry is posted
+-- a script at its start, with this time of waking: it is in its first state, with its entry posted
 abbrev pub fresh : Rules → ℕ → ℕ → Script
 fresh r code wake = record {
   code = code;

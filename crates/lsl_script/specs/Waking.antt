@@ -1,4 +1,4 @@
--- What waking a script comes to.
+-- The result of waking a script.
 use Rattle.std.specs.Prelude.{◌≡◌, ℕ, true, false, List, [], drop, Option, Some, None, is_some, slice_get}
 use Rattle.lsl_running.specs.declared.kept.Kept.{Kept}
 use Rattle.lsl_code.specs.declared.woven_units.Woven.{Woven as Code}
@@ -26,7 +26,7 @@ abbrev pub IsThere : {X : Type 0} → Option X → (X → Type 0) → Type 0
 IsThere None P = ⊥
 IsThere (Some x) P = P x
 
--- a script that took up a saved handler stands at its tick
+-- a script that took up a saved handler is at its tick
 abbrev pub StandsWoken : Live → Type 0
 StandsWoken live = live.began ≡ false → live.machine.standing ≡ standing.AtTick
 
@@ -42,12 +42,12 @@ awake_with parts h = record {
   machine = h.machine;
 }
 
--- it can't run, and is handed back as it was, exactly where it isn't ready
+-- it can't run, and is returned unchanged, exactly if it isn't ready
 abbrev pub IsRefused : ℕ → ScriptParts → WakeFault → Type 0
 IsRefused clock parts (NotReady script) = (are_ready clock parts ≡ false) × (script ≡ parts)
 IsRefused clock parts NoMemory = are_ready clock parts ≡ true
 
--- the event that is taken next: a script that leaves its state takes its exit before any that waits
+-- the next event: a script that leaves its state takes its exit before any that waits
 abbrev pub event_in : Option ℕ → List Event → Option Event
 event_in None queue = slice_get queue 0
 event_in (Some state) queue = Some state_exit
@@ -72,7 +72,7 @@ resting_parts parts kept rest = record parts { globals = kept.globals; limit = k
 abbrev pub CanWake : ScriptParts → Type 0
 CanWake parts = CanWakeFrom parts parts.rest
 
--- what is taken of resting parts, which event is in hand then, and what stays beside its handler
+-- the event that is taken of resting parts, the current event then, and what stays beside its handler
 abbrev pub taken_at : ScriptParts → Rest → Option Event
 taken_at parts Idle = event_in parts.leaving parts.queue
 taken_at parts (Saved e frames) = None
@@ -88,8 +88,8 @@ queue_at parts Idle = queue_behind parts.leaving parts.queue
 queue_at parts (Saved e frames) = parts.queue
 queue_at parts (Dead fault) = parts.queue
 
--- Parts wake so, whatever they were read from: they take their next event, and its handler begins, unless a handler was
--- saved, whose event is in hand again. The globals and the limit go to the machine; all else stays.
+-- Parts wake this way, whatever they were read from. They take their next event, and its handler begins; or if a
+-- handler was saved, its event is current again. The globals and the limit go to the machine; all else stays.
 pub record TakesNext (unit : Code) (parts : ScriptParts) (live : Live) : Type 0 where
   pub took : taken_by live ≡ taken_at parts parts.rest
   pub event : in_hand_at parts parts.rest ≡ Some live.event
@@ -100,11 +100,11 @@ pub record TakesNext (unit : Code) (parts : ScriptParts) (live : Live) : Type 0 
   pub begins : live.began ≡ true → GoesOnAs (bodies_of unit)
       (run_of (bodies_of unit) live.handler (kept_with parts.globals parts.limit) live.event.args) 0 [] live.machine
   pub has : live.began ≡ false → live.machine.machine.kept ≡ kept_with parts.globals parts.limit
-  -- which stands at its tick
+  -- and is at its tick
   pub stands : live.began ≡ false → live.machine.standing ≡ standing.AtTick
 
--- the awake script stands for the source script that has taken its next event, unless a handler was in flight; the
--- journal tells of the event; and the handler asks at most so often before its next tick
+-- the awake script represents the source script that has taken its next event, unless a handler was in flight; the
+-- journal reports the event; and the handler makes at most this many calls before its next tick
 pub record WakesAs (codes : List Code) (unit : Code) (s : Script) (live : Live) : Type 0 where
   pub flight : Flight
   pub flies : (number : ℕ) → (take_next number s s.doing).value.doing ≡ Flying flight

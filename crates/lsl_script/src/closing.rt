@@ -22,8 +22,8 @@ use lsl_text::NoMemory;
 use lsl_value::EventId;
 use std::alloc::Global;
 
-/// What a handler's end comes to: the script at rest, its charge then, and how many events went where it changed its
-/// state or began again.
+/// The result of a handler's end: the script at rest, its charge then, and the number of events that went if it changed
+/// its state or began again.
 #[derive(Drop)]
 pub struct Closed {
     pub script: Script,
@@ -70,7 +70,7 @@ impl Live {
     }
 }
 
-// The script goes there. How many events went, where they went.
+// Moves the script there. Returns the number of events that went, if any could.
 fn go(
     alloc: Global,
     unit: &Woven,
@@ -91,7 +91,7 @@ fn go(
     }
 }
 
-// The script stands in this state, and the entry is posted. How many events went.
+// Puts the script into this state, and posts the entry. Returns the number of events that went.
 fn enter(alloc: Global, unit: &Woven, parts: &mut ScriptParts, to: u16) -> u32
     ensures parts { parts.new ≡ entering unit.now.states to parts.old }
     ensures count { result ≡ length parts.old.queue }
@@ -104,7 +104,7 @@ fn enter(alloc: Global, unit: &Woven, parts: &mut ScriptParts, to: u16) -> u32
     count
 }
 
-// The script begins again. How many events went.
+// Starts the script again. Returns the number of events that went.
 fn restart(alloc: Global, unit: &Woven, parts: &mut ScriptParts) -> Result<u32, NoMemory>
     ensures { IfOk result (λ count. (parts.new ≡ begun_again unit.now parts.old) × (count ≡ length parts.old.queue)) }
 {
@@ -116,7 +116,7 @@ fn restart(alloc: Global, unit: &Woven, parts: &mut ScriptParts) -> Result<u32, 
     Ok(count)
 }
 
-/// All that waits, the listens and the timer go. How many events went.
+/// Discards all that waits, the listens and the timer. Returns the number of events that went.
 pub fn forget(alloc: Global, parts: &mut ScriptParts) -> u32
     ensures parts { parts.new ≡ forgotten parts.old }
     ensures count { result ≡ length parts.old.queue }

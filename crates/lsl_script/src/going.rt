@@ -1,25 +1,25 @@
-//! Where a script goes whose handler ended.
+//! Where a script goes after its handler ended.
 
 ghost use Rattle.std.specs.Prelude.{◌≡◌};
 ghost use Rattle.lsl_script.specs.Handlers.{going_from, going_of, going_on};
 
 use lsl_running::Outcome;
 
-/// Where a script goes whose handler ended.
+/// Where a script goes after its handler ended.
 #[derive(Clone, Copy, PartialEq, Eq)]
 pub enum Going {
     /// It stays in its state.
     Stays,
     /// It leaves for this state, once the handler of its exit has run.
     Leaves(u16),
-    /// It stands in this state.
+    /// It enters this state.
     Enters(u16),
     /// It begins again.
     Restarts,
 }
 
 impl Going {
-    /// From this state, which has a handler of its exit or has none; the script may be leaving it already.
+    /// From this state, with a handler of its exit or without; the script may be leaving it already.
     pub fn of(leaving: Option<u16>, state: u16, exits: bool, outcome: Outcome) -> Going
         ensures { result ≡ going_of leaving state exits outcome }
     {

@@ -7,7 +7,7 @@ ghost use Rattle.lsl_script.specs.MeantLaws.{MeantSaysTheSame};
 ghost use Rattle.lsl_script.specs.RuleLaws.{RulesAreLawful};
 ghost use Rattle.lsl_script.specs.Laws.{ChargeComesFirst, ExitComesFirst, FaultsAreForGood, LeavingGoesOn, NewStateKeepsTimer, ResetBeginsAgain, SameStateIsReturn};
 
-/// A change to the state in which a script stands is a return.
+/// A change to the state in which a script is already is a return.
 pub fn same_state_is_return()
     ensures { SameStateIsReturn }
 {}
@@ -18,8 +18,8 @@ pub fn leaving_goes_on()
     ensures first { ExitComesFirst }
 {}
 
-/// A handler's end leads on so: a reset begins the script again, also while it leaves; a return stays; a change to
-/// another state goes by the handler of the exit where there is one, and at once where there is none.
+/// How a handler's end continues: a reset begins the script again, also while it leaves; a return stays; a change to
+/// another state goes by the handler of the exit if there is one, and at once if there is none.
 pub fn ends_lead_on()
     ensures reset { ResetsRestart }
     ensures stays { ReturnsStay }
@@ -41,7 +41,7 @@ pub fn faults_are_for_good()
     ensures { FaultsAreForGood }
 {}
 
-/// The charge at a handler's end is that of the globals that it left, and is told before events go.
+/// The charge at a handler's end is that of the globals that it left, and is reported before events go.
 pub fn charge_comes_first()
     ensures { ChargeComesFirst }
 {}
@@ -61,17 +61,17 @@ pub fn timers_between_turns()
     ensures fits { StaysFitting }
 {}
 
-/// A handler that stands at a tick asks at most so often before its next one.
+/// A handler at a tick makes at most this many calls before its next one.
 pub fn flights_ask_so_often()
     ensures { FlightsAskSoOften }
 {}
 
-/// A handler with the answers that it asked for is cut, asks, ends or stops: it is never lost.
+/// A handler with answers to its own calls is cut, asks, ends or stops: it is never lost.
 pub fn flights_are_never_lost()
     ensures { FlightsAreNeverLost }
 {}
 
-/// What comes of a routine that isn't cut is the same with more ticks, and of one that doesn't ask with more answers.
+/// The result of a routine that isn't cut is the same with more ticks, and of one that doesn't ask with more answers.
 pub fn rules_are_lawful()
     ensures { RulesAreLawful }
 {}

@@ -1,4 +1,4 @@
-//! One script as its text means it: what it does with an event, and what becomes of it when a handler ends or stops. A
+//! One script as its text means it: what it does with an event, and what happens to it when a handler ends or stops. A
 //! script between turns has no machine: waking restores one from saved calls or begins a handler, and coming to rest
 //! saves it.
 #![tactic(auto)]

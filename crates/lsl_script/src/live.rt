@@ -1,4 +1,4 @@
-//! A script that is awake: its machine runs the handler of the event in hand.
+//! A script that is awake: its machine runs the handler of the current event.
 
 ghost use Rattle.std.specs.Prelude.{◌≡◌, ◌≢◌, ◌<◌, ◌≤◌, ℕ, List, nat_le, true, false, IfSome, option_copied};
 ghost use Rattle.std.specs.Borrow.{Lends, sem};
@@ -41,7 +41,7 @@ pub struct Live {
     pub(crate) handler: u16,
     /// whether the handler was begun when the script woke
     pub(crate) began: bool,
-    /// whether the handler was begun and hasn't gone on since
+    /// whether the handler was begun and hasn't continued since
     pub(crate) fresh: bool,
     /// how the handler ended, once it has
     pub(crate) outcome: Option<Outcome>,
@@ -51,7 +51,7 @@ pub struct Live {
 /// How far a script came.
 #[derive(Drop)]
 pub enum Turn {
-    /// to this host call, for whose answer it waits
+    /// to this host call, which it waits on
     Asks(Call),
     AtTick,
     /// to its handler's end
@@ -61,21 +61,21 @@ pub enum Turn {
 }
 
 impl Live {
-    /// The event that was taken when the script woke: none where it took up a saved handler. Takes no memory.
+    /// The event that was taken when the script woke: none if it took up a saved handler. Takes no memory.
     pub fn took(&self) -> Option<&Event>
         ensures { option_copied result ≡ taken_by self.now }
     {
         if self.began { Some(&self.event) } else { None }
     }
 
-    /// The event in hand. Takes no memory.
+    /// The current event. Takes no memory.
     pub fn event(&self) -> &Event
         ensures { result.now ≡ self.now.event }
     {
         &self.event
     }
 
-    /// Whether the script, which stands at a tick, isn't asleep. Takes no memory.
+    /// Whether the script, which is at a tick, isn't asleep. Takes no memory.
     pub fn ready(&self, clock: u64) -> bool
         ensures value { result ≡ nat_le self.now.parts.wake clock }
         ensures source { (codes : List Code) (unit : Code) (s : Source) (f : Flight) → Rests codes unit s f self.now →
@@ -84,8 +84,8 @@ impl Live {
         self.parts.parts.wake <= clock
     }
 
-    /// Goes on to the next tick, ask or end. A handler that was just begun passes its first tick too. After `NoMemory`
-    /// the script is only to be dropped.
+    /// Continues to the next tick, call or end. A handler that was just begun passes its first tick too. After
+    /// `NoMemory` the script must be dropped.
     #[inline(always)]
     pub fn go(&mut self, unit: &Woven) -> Turn
         requires able { CanRun self.old.machine.standing }
@@ -95,7 +95,7 @@ impl Live {
         ensures beside { IsBeside self.old self.new }
         ensures source { (codes : List Code) (s : Source) (f : Flight) → Lives codes unit.now s f self.old →
             Turns codes unit.now s f result self.new }
-        // On integers alone it takes no memory, but to enter a function and to ask.
+        // On integers alone it takes no memory, except to enter a function and to make a host call.
         ensures memory { self.old.fresh ≡ false → TakesNone (bodies_of unit.now) self.old.machine →
             result ≢ Turn.NoMemory }
         // Where it asks and has passed no tick, fewer host calls are ahead of it.
@@ -110,10 +110,10 @@ impl Live {
         }
     }
 
-    /// Passes the tick at which the script stands, and goes on while its machine meets nothing but integers and calls
-    /// of functions: whether it stands at a tick again then. Else it can go on from where it came to.
+    /// Passes the current tick, and continues while the machine meets nothing but integers and calls of functions.
+    /// Returns whether the script is at a tick again; otherwise it can continue from where it is.
     ///
-    /// Takes memory only to enter a function, and where that is wanting it stops before it.
+    /// Takes memory only to enter a function, and stops before it if there is none.
     #[inline(always)]
     pub fn pass_tick(&mut self, unit: &Woven) -> bool
         requires stands { self.old.machine.standing ≡ standings.AtTick }
@@ -127,7 +127,8 @@ impl Live {
         ensures goes { result ≡ false → (codes : List Code) (s : Source) (f : Flight) →
             Rests codes unit.now s f self.old → Lives codes unit.now s f self.new }
         ensures fresh { self.new.fresh ≡ self.old.fresh }
-        // On integers alone, but to enter a function and to ask, going on from there takes no memory.
+        // On integers alone it takes no memory to continue from there, except to enter a function and to make a host
+        // call.
         ensures memory { result ≡ false → TakesNone (bodies_of unit.now) self.old.machine →
             TakesNone (bodies_of unit.now) self.new.machine }
     {
@@ -135,11 +136,11 @@ impl Live {
         passed.1
     }
 
-    /// Passes the tick at which the script stands, and further ones, at most so many in all, while its machine meets
-    /// nothing but integers and calls of functions: how many segments were passed whole, and whether it stands at a
-    /// tick again then. Else it can go on to the end of the next segment.
+    /// Passes the current tick and further ones, at most `most` in all, while the machine meets nothing but integers
+    /// and calls of functions. Returns the number of segments that were passed whole, and whether the script is at a
+    /// tick again; otherwise it can continue to the end of the next segment.
     ///
-    /// Takes memory only to enter a function, and where that is wanting it stops before it.
+    /// Takes memory only to enter a function, and stops before it if there is none.
     #[inline(always)]
     pub fn pass_ticks(&mut self, unit: &Woven, most: u32) -> (u32, bool)
         requires some { 0 < most }
@@ -162,7 +163,7 @@ impl Live {
         (passed - 1, false)
     }
 
-    /// Goes on from where the script woke, as `go` does.
+    /// Continues from where the script woke, as `go` does.
     #[inline(always)]
     pub fn start(&mut self, unit: &Woven) -> Turn
         requires able { CanRun self.old.machine.standing }
@@ -181,7 +182,7 @@ impl Live {
         }
     }
 
-    // From a tick, at which the script stands.
+    // From the current tick.
     #[inline(always)]
     fn go_from_tick(&mut self, unit: &Woven) -> Turn
         requires stands { self.old.machine.standing ≡ standings.AtTick }
@@ -253,8 +254,7 @@ impl Live {
         }
     }
 
-    /// Gives the answer to what was asked for: a value of the call's result, or none where it has none. Takes no
-    /// memory.
+    /// Gives the answer to the pending call: a value of the call's result, or none if it has none. Takes no memory.
     pub fn answer(&mut self, value: Option<Value>)
         requires { Wants self.old.machine.standing value }
         ensures able { CanRun self.new.machine.standing }
@@ -270,7 +270,7 @@ impl Live {
         self.machine.answer(value);
     }
 
-    /// Keeps the room of a call that was asked for, for the next. Takes no memory.
+    /// Keeps the buffer of a finished call, for the next. Takes no memory.
     #[inline(always)]
     pub fn keep_room(&mut self, call: Call)
         ensures { self.new ≡ self.old }
@@ -312,7 +312,7 @@ impl Live {
         &mut parts.timer
     }
 
-    /// It sleeps until this reading of the clock. Takes no memory.
+    /// Sets the reading of the clock until which the script sleeps. Takes no memory.
     pub fn nap(&mut self, wake: u64)
         ensures wake { self.new ≡ with_wake wake self.old }
         ensures awake { (unit : Code) → IsAwake unit self.old → IsAwake unit self.new }

@@ -23,7 +23,7 @@ use lsl_running::Kept;
 use lsl_text::NoMemory;
 
 impl Live {
-    /// The script at rest, its handler saved where it stands.
+    /// The script at rest, with its handler saved in place.
     pub fn rest(self, unit: &Woven) -> Result<Script, NoMemory>
         requires awake { IsAwake unit.now self }
         requires stands { self.machine.standing ≡ standings.AtTick }
@@ -49,8 +49,8 @@ impl Live {
         Ok(script)
     }
 
-    /// Saves the calls by the unit's own code, and restores them; the script is then as it was. After `NoMemory` it
-    /// is only to be dropped.
+    /// Saves the calls by the unit's own code, and restores them; the script is unchanged. After `NoMemory` it must be
+    /// dropped.
     pub fn pause(&mut self, unit: &Woven) -> Result<(), NoMemory>
         requires awake { IsAwake unit.now self.old }
         requires stands { self.old.machine.standing ≡ standings.AtTick }

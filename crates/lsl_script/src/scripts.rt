@@ -39,7 +39,7 @@ impl Model for Script {
 }
 
 impl Script {
-    /// A script at its start, whose unit has this number: it stands in its first state, and the entry is posted.
+    /// A script at its start, of the unit of this number: it is in its first state, and the entry is posted.
     pub fn new(alloc: Global, number: u32, unit: &Woven) -> Result<Script, NoMemory>
         ensures fits { IfOk result (FitsUnit unit.now) }
         ensures script { (codes : _) → HasUnit codes number unit.now →
@@ -72,7 +72,7 @@ impl Script {
         &self.parts
     }
 
-    /// The script has these parts, which fit its unit. Takes no memory.
+    /// Sets the script's parts, which fit its unit. Takes no memory.
     pub fn set_parts(&mut self, parts: ScriptParts, unit: &Woven)
         requires { FitsUnit unit.now parts }
         ensures { self.new ≡ parts }

@@ -30,13 +30,13 @@ use std::mem::replace;
 /// Why a script doesn't wake.
 #[derive(Drop)]
 pub enum WakeFault {
-    /// it can't run; here it is, as it was
+    /// it can't run; here it is, unchanged
     NotReady(Script),
     NoMemory,
 }
 
-/// A handler that a script which wakes begins or takes up: the event in hand, the event's handler, whether it begins,
-/// and the machine that runs it.
+/// A handler that a waking script begins or takes up: the current event, the event's handler, whether it begins, and
+/// the machine that runs it.
 #[derive(Drop)]
 struct Handling {
     event: Event,
@@ -57,8 +57,8 @@ impl From<NoMemory> for WakeFault {
 }
 
 impl Script {
-    /// Wakes the script: without a handler in flight it takes its next event, and begins the handler; else it takes up
-    /// the one that was saved. After `NoMemory` the script is gone.
+    /// Wakes the script: without a handler in flight it takes its next event, and begins the handler; otherwise it
+    /// takes up the one that was saved. After `NoMemory` the script is gone.
     pub fn wake(self, alloc: Global, unit: &Woven, clock: u64) -> Result<Live, WakeFault>
         requires fits { FitsUnit unit.now self }
         requires weaves { Weaves unit.now }
@@ -78,7 +78,7 @@ impl Script {
         Ok(handling.with(script))
     }
 
-    /// Wakes the script in this seat, which is ready, as `wake` does. It goes out of the seat and into the room; after
+    /// Wakes the script in this seat, which is ready, as `wake` does. It moves from the seat into the buffer; after
     /// `NoMemory` it is gone.
     pub fn wake_into(
         seat: &mut Option<Script>,
@@ -106,7 +106,7 @@ impl Script {
 }
 
 impl Handling {
-    // What these parts, which are ready, wake to; they keep what stays beside it.
+    // Wakes these parts, which are ready; they keep what stays beside the handler.
     fn of(alloc: Global, unit: &Woven, parts: &mut ScriptParts) -> Result<Handling, NoMemory>
         requires fits { FitsUnit unit.now parts.old }
         requires ready { CanWake parts.old }
@@ -219,7 +219,7 @@ impl Handling {
     }
 }
 
-// The event that is taken next: a script that leaves its state takes its exit before any that waits.
+// The next event: a script that leaves its state takes its exit before any that waits.
 fn next_event(alloc: Global, leaving: Option<u16>, queue: &mut Queue) -> Event
     requires { is_some (event_in leaving queue.old) ≡ true }
     ensures event { event_in leaving queue.old ≡ Some result }

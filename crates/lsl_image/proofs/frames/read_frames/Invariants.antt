@@ -6,7 +6,7 @@ use Rattle.lsl_image.specs.Rest.{callee_of, frame_behind}
 use Rattle.lsl_image.specs.Leading.{Leads}
 use Rattle.lsl_image.proofs.frames.read_frames.Given as goal
 
--- so many frames are read and charged
+-- this many frames are read and charged
 abbrev pub invariant-loop-i : goal.invariant-loop-i
 invariant-loop-i l = record {
   many : length l.pack.frames ≡ l.i;

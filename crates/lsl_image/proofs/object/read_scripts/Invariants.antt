@@ -4,7 +4,7 @@ use Rattle.lsl_image.specs.Object.{script_of}
 use Rattle.lsl_image.specs.Leading.{Leads}
 use Rattle.lsl_image.proofs.object.read_scripts.Given as goal
 
--- so many are read
+-- this many are read
 abbrev pub invariant-loop-number : goal.invariant-loop-number
 invariant-loop-number l = Leads l.bytes
     (each_behind (λ number. script_of l.version number (slice_get l.library number))

@@ -4,7 +4,7 @@ use Rattle.lsl_image.specs.Script.{event_in}
 use Rattle.lsl_image.specs.Leading.{Leads}
 use Rattle.lsl_image.proofs.queue.read_events.Given as goal
 
--- so many events are read
+-- this many events are read
 abbrev pub invariant-loop-i : goal.invariant-loop-i
 invariant-loop-i l = record {
   many : length l.queue ≡ l.i;

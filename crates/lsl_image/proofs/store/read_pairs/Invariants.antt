@@ -4,7 +4,7 @@ use Rattle.lsl_image.specs.Object.{pair_behind, pair_bytes}
 use Rattle.lsl_image.specs.Leading.{Leads}
 use Rattle.lsl_image.proofs.store.read_pairs.Given as goal
 
--- so many pairs are read, and leave so much room
+-- this many pairs are read, and leave this much room
 abbrev pub invariant-loop-i : goal.invariant-loop-i
 invariant-loop-i l = record {
   left : sum_by pair_bytes l.pairs + l.room ≡ 65536;

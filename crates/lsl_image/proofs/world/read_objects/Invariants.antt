@@ -4,7 +4,7 @@ use Rattle.lsl_image.specs.World.{placed}
 use Rattle.lsl_image.specs.Leading.{Leads}
 use Rattle.lsl_image.proofs.world.read_objects.Given as goal
 
--- so many are read
+-- this many are read
 abbrev pub invariant-loop-shape : goal.invariant-loop-shape
 invariant-loop-shape l = Leads l.bytes
     (each_behind (placed l.version l.library) (drop l.shape-index l.shapes) l.objects) l.next

@@ -4,7 +4,7 @@ use Rattle.lsl_value.specs.Text.{IsText}
 use Rattle.lsl_bytes.specs.Fields.{text_bytes}
 use Rattle.lsl_image.proofs.write_body.write_texts.Given as goal
 
--- so many are written, and fit
+-- this many are written, and fit
 abbrev pub invariant-loop-name : goal.invariant-loop-name
 invariant-loop-name l = record {
   written : l.out.items ≡ l.fn.out.items ++ flat_map text_bytes (take l.name-index l.names);
