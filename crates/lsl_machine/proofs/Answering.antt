@@ -85,7 +85,7 @@ full_went r q v more x h c =
         ap (λ (m : Machine). replied_to (reply.Value (Some v)) m.kept more m.calls) view
         ∙ ap (λ b. cond b (On (put h.0 more h.1 h.2 h.3 (v ∷ h.4) h.5)) (Halts (Faulted StackHeap))) e
 
--- a push goes on, faults or lacks memory
+-- a push continues, faults or runs out of memory
 pub push_only : (n : Machine) (s : Step) (q : Running) → Comes (checked n) s q → (s ≡ steps.NoMemory → ⊥)
     → (s ≡ steps.Goes → ⊥) → ((x : Fault) → s ≡ steps.Faults x → ⊥) → ⊥
 push_only n s q c lacks goes faults = go (is_within n.kept (used_in n.calls n.kept)) s c lacks goes faults where

@@ -101,7 +101,7 @@ only_true : (b : Bool) (left js : List Kind) → only_if b left ≡ Some js → 
 only_true true left js e = refl
 only_true false left js e = absurd cc
 
--- the operand of a cast can be cast so
+-- the operand of a cast can be cast this way
 pub cast_row : (s : Scope) (to : Kind) (v : Value) (g : Kept) (f pc : ℕ) (sl ops : List Value)
     (outer : List MachineCall) (js : List Kind) (q : Running)
     → behind s (instrs.Cast to) (kinds_of ops) ≡ Some js → Popped g f pc sl ops outer (Some v) q

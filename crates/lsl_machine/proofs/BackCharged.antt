@@ -1,4 +1,4 @@
--- The calls that frames are restored to are charged what the frames are.
+-- The calls that frames are restored to are charged as the frames are.
 use Rattle.std.proofs.Common.{◌≡◌, ◌∙◌, refl, sym, ap, subst, arith, ℕ, zero, suc, ◌+◌, ◌<◌, ◌≤◌, List, [], ◌∷◌, ◌++◌, inr, length, map, Option, Some, None, true, false, append_assoc, append-nil}
 use Rattle.std.specs.Prelude.{slice_get, option_map, option_and_then, sum_by}
 use Rattle.std.proofs.lemmas.List.Sums.{sum_by-cons}
@@ -33,7 +33,7 @@ use Rattle.lsl_machine.proofs.Reaching.{alone}
 use Rattle.lsl_machine.proofs.Totals.{base_more}
 use Rattle.lsl_machine.proofs.Vacating.{slot_there}
 
--- the call is restored, and is charged so
+-- the call is restored, and has this charge
 record IsPaid (bodies : List Body) (left : List Frame) (callee : Option ℕ) (c : MachineCall) (point : ℕ)
     (hand : List Value) (sack : List Frame) (total : ℕ) : Type 0 where
   steps : ℕ
@@ -244,7 +244,7 @@ module _ (bodies : List Body) (ok : AreKept bodies) where
             (restoring (blank fr.function w ∷ a.2) a.1 [] (fr ∷ [])) _ a.4 (r.ran a.2),
       )
 
--- a machine that frames are restored to is charged no more than they are
+-- a machine that frames are restored to is charged at most what they are
 pub restored_charge : (globals : List Value) (states : List StateCode) (bodies : List Body)
     → is_woven globals states bodies ≡ true → (h : ℕ) (frames : List Frame) (x : Beside)
     → AreFrames (points_of bodies) h frames → (m : Machine) (n : ℕ) → BackRun bodies h frames x m n

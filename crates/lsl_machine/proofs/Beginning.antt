@@ -75,7 +75,7 @@ pub body_of_arguments : (o : Option Body) (args : List Value) → AreArguments o
 body_of_arguments None args a = absurd a
 body_of_arguments (Some body) args a = (body, refl, a)
 
--- what a machine that begins comes to
+-- the result of a machine that begins
 pub record HasBegun (unit : Code) (f : ℕ) (kept : Kept) (args : List Value) (s : State) : Type 0 where
   pub runs : (t : ℕ) (a : List Reply) → run_of (bodies_of unit) f kept args t a ≡ halt_from s.standing (bodies_of unit)
       s.machine t a

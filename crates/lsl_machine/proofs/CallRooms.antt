@@ -1,4 +1,4 @@
--- Host calls: their arguments, and the room that is kept for the next.
+-- Host calls: their arguments, and the buffer that is kept for the next.
 use Rattle.std.proofs.Common.{◌≡◌, ◌∙◌, ap, ℕ, List, [], ◌∷◌, Option, Some, None, Result, Ok, Err, reverse, take, drop}
 use Rattle.std.specs.Result.{IfOk}
 use Rattle.std.specs.Option.{option_to_list}
@@ -12,7 +12,7 @@ use Rattle.lsl_machine.specs.declared.standing.Standing.TheVariants as standing
 use Rattle.lsl_machine.specs.Laid.{Held, IsLaid, Lays}
 use Rattle.lsl_machine.specs.Steps.{Popped}
 
--- the room is no part of what lies in the machine
+-- the buffer isn't part of what lies in the machine
 pub spared : (r : Running) (room : Option Call) (g : Kept) (c : MachineCall) (outer : List MachineCall)
     → Lays r g c outer → Lays (record r { spare = room }) g c outer
 spared r room g c outer h = record {
@@ -47,7 +47,7 @@ argument_taken g f place sl [] outer (Some w) r args p e = absurd p
 argument_taken g f place sl (v ∷ rest) outer None r args p e = absurd p
 argument_taken g f place sl (v ∷ rest) outer (Some w) r args p e = (e ∙ ap (λ (x : Value). x ∷ []) p.0, p.1)
 
--- a call that was made of these arguments
+-- a call that was built from these arguments
 pub made_of : {E : Type 0} (made : Result Call E) (args wanted : List Value) (Lies : Type 0)
     → IfOk made (λ call. call.args ≡ args) → args ≡ wanted → Lies → IfOk made (λ call. (call.args ≡ wanted) × Lies)
 made_of (Ok call) args wanted Lies made same lies = (made ∙ same, lies)

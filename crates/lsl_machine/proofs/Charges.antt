@@ -57,7 +57,7 @@ atoms_few (value.Str text) = omega arith
 atoms_few (value.Key text) = omega arith
 atoms_few (value.List atoms) = let a = items_few atoms in omega arith
 
--- a list of elements has no more of them than these are charged
+-- a list has at most as many elements as its charge
 pub elements_few : (vs : List Value) → length (flat_map atoms_of vs) ≤ charges_of vs
 elements_few [] = omega arith
 elements_few (v ∷ vs) =

@@ -10,7 +10,7 @@ use Rattle.lsl_running.specs.Charging.{charges_of}
 pub one_more : (v : Value) (vs : List Value) → charges_of (v ∷ vs) ≡ charge_of v + charges_of vs
 one_more v vs = sum_by-cons charge_of v vs
 
--- what the slots are charged that are counted, the first of which has the number k
+-- the charge of the slots that are counted, the first of which has the number k
 abbrev pub due : (ℕ → ℕ) → ℕ → List Value → ℕ
 due c k [] = 0
 due c k (v ∷ vs) = cond (nat_eq (c k) 0) 0 (charge_of v) + due c (suc k) vs
@@ -46,7 +46,7 @@ due_past c m k (v ∷ vs) lt =
     (counted_there c m k (omega arith))
     ∙ ap (λ n. cond (nat_eq (c k) 0) 0 (charge_of v) + n) (due_past c m (suc k) vs (omega arith))
 
--- a slot that is counted once more, and not besides
+-- a slot that is counted once more, and not otherwise
 pub due_more : (c : ℕ → ℕ) (m k i : ℕ) (v : Value) (vs : List Value) → slice_get vs i ≡ Some v → m ≡ k + i
     → c m ≡ 0 → due (once_more c m) k vs ≡ charge_of v + due c k vs
 due_more c m k i v [] e at none = absurd cc
@@ -91,7 +91,7 @@ idle_past c m k (v ∷ vs) lt =
     (counted_there c m k (omega arith))
     ∙ ap (λ n. cond (nat_eq (c k) 0) (charge_of v) 0 + n) (idle_past c m (suc k) vs (omega arith))
 
--- a value put to a slot that is counted once more, and not besides
+-- a value put to a slot that is counted once more, and not otherwise
 pub idle_more : (c : ℕ → ℕ) (m k i : ℕ) (v : Value) (vs : List Value) → i < length vs → m ≡ k + i → c m ≡ 0
     → idle c k (slice_set vs i v) ≡ charge_of v + idle (once_more c m) k vs
 idle_more c m k i v [] lt at none = absurd (omega arith)

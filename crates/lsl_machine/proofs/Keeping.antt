@@ -95,7 +95,7 @@ slot_count c w e = sym (length_kinds c.slots) ∙ ap length e
     length_kinds [] = refl
     length_kinds (v ∷ vs) = ap suc (length_kinds vs)
 
--- the way begins behind a point
+-- the way begins after a point
 pub begins_sealing : (bodies : List Body) (s : Saver) (low : List Value) (c : MachineCall) (k : ℕ)
     (callee : Option ℕ) (p : ℕ) (fit : IsAt bodies c k callee p) → c.place ≡ k + 1
     → is_kept fit.body ≡ true → HasCall s low c []
@@ -331,7 +331,7 @@ module _ (bodies : List Body) (w : Body) (start : MachineCall) (low : List Value
     kept_by (Seal q) t e g step d = absurd d
     kept_by _ t e g step d = absurd g
 
-    -- on along the way
+    -- continues along the way
     pub keeps_on : (t : Saver)
         → DidKeep i low (with_slots x.c x.slots) x.hand (save_act (Some i) (with_slots x.c x.slots) x.hand) None t
         → IsSealing bodies w start low n t
@@ -399,7 +399,7 @@ module _ (bodies : List Body) (w : Body) (start : MachineCall) (low : List Value
         × IsFrameOf bodies start (frame_of x.c.function q x.hand)
     is_sealed q t d = sealed_by i q t way_here goes steps_on d
 
--- no instruction is no way
+-- without an instruction there is no way
 pub not_over : (bodies : List Body) (w : Body) (start : MachineCall) (low : List Value) (s : Saver)
     → IsSealing bodies w start low 0 s → ⊥
 not_over bodies w start low s x = save_not_over w x.point x.kinds x.c x.hand x.on

@@ -29,7 +29,7 @@ limited r g f pc n sl ops outer h le small =
       within = omega arith;
     }
 
--- what comes of asking for a limit is what comes of the one that is got
+-- the result of asking for a limit is that of the limit that is set
 pub asked_limit : (r q : Running) (g : Kept) (f pc : ℕ) (sl rest : List Value) (outer : List MachineCall) (s : Step)
     (n : ℤ) (limit : Option ℕ) → Lays r g (call_at f pc sl rest) outer
     → granted n (r.active.charge + r.global_charge) ≡ limit

@@ -43,7 +43,7 @@ is_tick bodies (Some i) g c held e =
     let by = subst (By bodies i) e (act_by bodies i g held c.slots c.operands) in
     (by.0, ap Some by.1)
 
--- a machine that passes a tick next stands at one
+-- a machine that passes a tick next is at one
 pub at_tick : (bodies : List Body) (m : Machine) → m.answers ≡ [] → StandsAtTick bodies m → IsAtTick bodies m.calls
 at_tick bodies m none stands = by_calls m.calls (subst (λ a. step bodies (record m { answers = a })
     ≡ Pauses (Passing stands.0)) none stands.1)
@@ -138,7 +138,7 @@ tick_stands bs g answers (c ∷ outer) tick = (
   ap (λ o. done_by bs o g answers c.function c.place c.slots c.operands outer) tick.1,
 )
 
--- the restored machine is one of the unit, and stands at a tick
+-- the restored machine is one of the unit, and is at a tick
 module _ (unit : Woven) (h : ℕ) (frames : List Frame) (kept : Kept)
     (fit : AreFrames (points_of (bodies_of unit)) h frames) (kinds : kinds_of kept.globals ≡ kinds_of unit.globals)
     (r : Running) (n : ℕ) (restored : IsRestored (bodies_of unit) h frames kept r n) where
@@ -170,7 +170,7 @@ module _ (unit : Woven) (h : ℕ) (frames : List Frame) (kept : Kept)
         (h, calls.1),
       )
 
--- a machine of the unit that stands at a tick
+-- a machine of the unit at a tick
 module _ (unit : Woven) (s : State) (none : s.machine.answers ≡ []) (stands : s.standing ≡ standing.AtTick)
     (of : IsOf unit s) where
   tick_in : IsKinded unit s.machine × StandsAtTick (bodies_of unit) s.machine

@@ -43,7 +43,7 @@ module _ (unit : Code) (handler : ℕ) where
     memory = λ e. absurd cc;
   }
 
-  -- and to where it goes on
+  -- and to where it continues
   on_from : (p q : Running) → PassesOne unit p q → IsChain (bodies_of unit) handler (machine_of p).calls
       → PassesTick unit (state_of p standing.AtTick) (state_of q standing.Ready)
   on_from p q one chain = record {
@@ -72,7 +72,7 @@ module _ (unit : Code) (handler : ℕ) where
       OneMore k (state_of s standing.AtTick) (state_of p standing.AtTick) (state_of t standing.Ready)
       (many_to_tick k s p before chain one.stands) (on_from p t one (many_chained k s p before chain))
 
--- what comes of a machine, so many ticks later
+-- the result of a machine, n ticks later
 pub ticks_run : (unit : Code) (n : ℕ) (s t : State) → PassesTicks unit n s t → (more : ℕ) (a : List Reply)
     → halt_from s.standing (bodies_of unit) s.machine (n + more) a
     ≡ halt_from t.standing (bodies_of unit) t.machine more a
@@ -105,7 +105,7 @@ ticks_one unit n s t (OneMore k u v w before one) e =
     let none : k ≡ 0 = omega (arith, e) in
     subst (λ (x : State). PassesTick unit x w) (sym (ticks_none unit k u v before none)) one
 
--- a machine that stands before a tick
+-- a machine at a tick
 module _ (unit : Code) (r q : Running) (z : Standing) (old : State) (view : state_of r z ≡ old)
     (stands : old.standing ≡ standing.AtTick) (of : IsOf unit old) (n : ℕ) (many : PassesMany unit n r q) where
   stood : z ≡ standing.AtTick

@@ -1,4 +1,4 @@
--- On its way restoring keeps what the frame in hand and the call are charged together.
+-- On its way restoring keeps the charge of the current frame and the call together.
 use Rattle.std.proofs.Common.{◌≡◌, ◌∙◌, refl, sym, ap, subst, arith, ℕ, suc, ◌+◌, List, [], ◌∷◌, ◌++◌, ◌⊎◌, inl, inr, ⊎_elim, length, Option, Some, None, Bool, true, false}
 use Rattle.std.specs.Prelude.{slice_get, option_map}
 use Rattle.std.proofs.lemmas.List.{length-set}
@@ -18,7 +18,7 @@ use Rattle.lsl_weave.proofs.SavingOn.{onward_is}
 use Rattle.lsl_machine.proofs.Carried.{AtMostOnce, puts_of, none_left, fewer, has_place}
 use Rattle.lsl_machine.proofs.Counted.{one_more, idle, idle_more, idle_none}
 
--- at most n instructions are left to put back these values, and these and the call's are charged so
+-- at most n instructions are left to put back these values, and this is the charge of these and the call's
 pub record IsPutting (w : Body) (n : ℕ) (opened : Bool) (p : ℕ) (c : MachineCall) (values : List Value)
     (total : ℕ) : Type 0 where
   pub way : BackWay
@@ -26,7 +26,7 @@ pub record IsPutting (w : Body) (n : ℕ) (opened : Bool) (p : ℕ) (c : Machine
   pub once : AtMostOnce (puts_of way.puts) (length c.slots)
   pub sum : charges_of values + charges_of c.operands + idle (puts_of way.puts) 0 c.slots ≡ total
 
--- a frame is in hand, or it still is the outermost of those that are left
+-- a frame is current, or it still is the outermost of those that are left
 abbrev pub PutsOn : Body → ℕ → List Frame → MachineCall → ℕ → List Value → List Frame → ℕ → Type 0
 PutsOn w n left c point hand sack total =
     ((sack ≡ left) × IsPutting w n true point c hand total)

@@ -41,7 +41,7 @@ put_place bodies r t c outer point q hand sack h is =
       reserved = h.reserved;
     })
 
--- the outermost frame is taken
+-- the outermost frame becomes current
 pub frame_taken : (bodies : List Body) (r t : Restorer) (fr : Frame) → r.pack.frames ≡ t.pack.frames ++ fr ∷ []
     → t.point ≡ fr.point → t.pack.hand ≡ fr.slots
     → t.active ≡ record r.active { place = r.active.place + 1 } → t.stack ≡ r.stack → t.callers ≡ r.callers

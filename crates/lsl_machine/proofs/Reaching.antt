@@ -1,4 +1,4 @@
--- A run that comes to its end goes on from each state on its way.
+-- A run that ends continues from each state on its way.
 use Rattle.std.proofs.Common.{◌≡◌, ◌∙◌, refl, sym, ap, subst, arith, ℕ, zero, suc, ◌+◌, ◌≤◌, Option, Some, None}
 use Rattle.std.specs.Prelude.{option_and_then, option_map}
 use Rattle.std.proofs.lemmas.Option.{none-some}
@@ -17,7 +17,7 @@ left_behind : {S : Type 0} (step : S → Option S) (m n : ℕ) (t u : S)
 left_behind step m n t u h None a b = absurd (none-some t a)
 left_behind step m n t u h (Some s) a b = let r = h s a b in (r.0, let e = r.1 in omega arith, r.2)
 
--- what is left of a run behind its first m steps
+-- what is left of a run after its first m steps
 pub left_over : {S : Type 0} (step : S → Option S) (m n : ℕ) (s t u : S) → repeat step m s ≡ Some t
     → repeat step n s ≡ Some u → step u ≡ None → (rest : ℕ) × (n ≡ m + rest) × (repeat step rest t ≡ Some u)
 left_over step zero n s t u a b over =
@@ -33,7 +33,7 @@ further : {S : Type 0} (step : S → Option S) (k : ℕ) (u : S) (o : Option S)
 further step k u None e = absurd (none-some u e)
 further step k u (Some v) e = (v, refl)
 
--- where the end isn't come to yet there is a step
+-- where the end isn't reached yet there is a step
 pub next_there : {S : Type 0} (step : S → Option S) (m n : ℕ) (s t u : S) → repeat step m s ≡ Some t
     → repeat step n s ≡ Some u → step u ≡ None → (t ≡ u → ⊥) → (v : S) × (step t ≡ Some v) × (m + 1 ≤ n)
 next_there {S = S} step m n s t u a b over differs =

@@ -1,4 +1,4 @@
--- Restoring goes on from instruction to instruction, up to its end.
+-- Restoring continues from instruction to instruction, up to its end.
 use Rattle.std.proofs.Common.{◌≡◌, ◌∙◌, refl, sym, ap, subst, arith, ℕ, ◌+◌, ◌*◌, ◌<◌, ◌≤◌, true, false, Bool, List, [], ◌∷◌, ◌++◌, length, length-append, reverse, Option, Some, None, vec_capacity}
 use Rattle.std.specs.Prelude.{slice_get, option_map, sum_by}
 use Rattle.std.proofs.lemmas.List.Sums.{sum_by-cons}
@@ -30,7 +30,7 @@ use Rattle.lsl_machine.proofs.Reaching.{alone, next_there}
 use Rattle.lsl_machine.proofs.Sealing.{place_short}
 use Rattle.lsl_machine.proofs.Viewing.{machine_view}
 
--- restoring these frames ends so, after so many instructions
+-- restoring these frames ends this way, after n instructions
 record Whole (unit : Woven) (handler : ℕ) (frames : List Frame) : Type 0 where
   body : Body
   found : slice_get (bodies_of unit) handler ≡ Some body
@@ -95,7 +95,7 @@ module _ (unit : Woven) (handler : ℕ) (frames : List Frame) (kept : Kept)
   pub body_there : (body : Body) × (slice_get bodies handler ≡ Some body)
   body_there = let w = whole_of unit handler frames kept valid.0 in (w.body, w.found)
 
-  -- a whole run is no longer than can be counted
+  -- a whole run is short enough to be counted
   pub run_short : (m : Machine) (n : ℕ) → BackRun bodies handler frames (beside kept) m n
       → n ≤ 9223372036854775807
   run_short m n run =
@@ -134,7 +134,7 @@ module _ (unit : Woven) (handler : ℕ) (frames : List Frame) (kept : Kept)
         true_not_false : true ≡ false → ⊥
         true_not_false e = cc
 
-    -- not yet so many instructions as can be counted
+    -- fewer instructions so far than can be counted
     pub counts_on : k + 1 ≤ 9223372036854775807
     counts_on =
         let few = total.few in
@@ -212,7 +212,7 @@ module _ (unit : Woven) (handler : ℕ) (frames : List Frame) (kept : Kept)
           by_body None e h = absurd cc
           by_body (Some w) e h = place_short unit f w place j e h
 
-      -- where a branch leads to an instruction restores as well
+      -- where a branch leads to an instruction restores too
       branched : i ≡ Branch → at.c.place + 1 + x.state.point < 4294967296
       branched e =
           let to = call_at at.c.function (at.c.place + 1 + x.state.point) at.c.slots at.c.operands in
@@ -266,7 +266,7 @@ module _ (unit : Woven) (handler : ℕ) (frames : List Frame) (kept : Kept)
             placed_here,
           )
 
-      -- what the instruction comes to
+      -- the result of the instruction
       record Came (t : Restorer) (awake : Bool) : Type 0 where
         state : Restoring
         is_awake : state.awake ≡ awake

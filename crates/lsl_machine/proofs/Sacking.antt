@@ -70,7 +70,7 @@ can_seal bodies s c outer values active hand behind =
     subst (λ (x : MachineCall). HasCall s (low_of s) x [] × IsBehindPoint bodies x) (sym call)
     (subst (λ l. HasCall s l c []) (sym low) h, behind)
 
--- the innermost call behind its tick
+-- the innermost call after its tick
 abbrev pub behind_tick : MachineCall → MachineCall
 behind_tick c = at_place c (c.place + 1) c.operands
 
@@ -119,7 +119,7 @@ first_saved bodies h c outer s f callers rests frame values hand waiting =
       charge = omega arith;
     }
 
--- the call that is taken next
+-- the next call that is taken
 pub record IsNext (bodies : List Body) (first : List MachineCall) (s : Saver) (caller : Activation)
     (callers : List Activation) (frames : List Frame) : Type 0 where
   pub c : MachineCall

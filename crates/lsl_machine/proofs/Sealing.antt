@@ -1,4 +1,4 @@
--- The call that a saver has in hand.
+-- The current call of a saver.
 use Rattle.std.proofs.Common.{◌≡◌, ◌∙◌, sym, ap, subst, arith, ℕ, suc, ◌+◌, ◌<◌, List, ◌++◌, length, reverse, take, Some, true}
 use Rattle.std.specs.Prelude.{slice_get, nat_lt}
 use Rattle.std.proofs.lemmas.Option.{slice_get_within}
@@ -57,7 +57,7 @@ place_short unit f w place i found here =
     let within = slice_get_within w.code place i here in
     omega arith
 
--- the frame that the saver then closes
+-- the frame that the saver closes then
 pub closes : (bodies : List Body) (w : Body) (start : MachineCall) (low : List Value) (n : ℕ) (s t : Saver)
     (x : IsSealing bodies w start low (suc n) s) → slice_get bodies start.function ≡ Some w → (i : Instr)
     → slice_get w.code s.active.place ≡ Some i → (q : ℕ)

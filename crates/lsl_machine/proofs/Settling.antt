@@ -1,4 +1,4 @@
--- A machine that is saved and restored where it stands.
+-- A machine that is saved and restored in place.
 use Rattle.std.proofs.Common.{◌≡◌, ◌∙◌, refl, sym, ap, subst, arith, ℕ, ◌≤◌, List, [], Result, OnOk, Ok, Err}
 use Rattle.lsl_running.specs.declared.kept.Kept.{Kept}
 use Rattle.lsl_running.specs.Charging.{charges_of, default_limit}

@@ -1,4 +1,4 @@
--- Instructions on integers lack no memory.
+-- Instructions on integers don't run out of memory.
 use Rattle.std.proofs.Common.{sym, subst, arith, ℕ, List, [], ◌∷◌, take, Some}
 use Rattle.std.specs.Prelude.{All, IsTrue}
 use Rattle.lsl_value.specs.declared.operators.BinaryOp.{BinaryOp}

@@ -1,4 +1,4 @@
--- Calls that are restored: entered again, charged, and gone on from.
+-- Calls that are restored: entered again, charged, and continued.
 use Rattle.std.proofs.Common.{◌≡◌, ◌∙◌, refl, sym, ap, subst, arith, ℕ, ◌+◌, ◌≤◌, true, false, List, [], ◌∷◌, ◌++◌, drop, length, map, min, Some, option_map, vec_capacity}
 use Rattle.std.specs.Prelude.{slice_get}
 use Rattle.std.proofs.lemmas.List.{append-nil, map-append}
@@ -141,7 +141,7 @@ entered_again bodies old r t callee charge w land found charged stack room grows
         ∙ ap {A = ℕ} {B = Activation}
         (λ x. record { function = b.function; place = b.place; base = b.base; floor = b.floor; charge = x }) e
 
--- a call that is charged less than the greatest number is kept as it is
+-- a call with less than the greatest charge is kept as it is
 pub uncapped : (calls : List MachineCall) → base calls ≤ 18446744073709551615
     → map capped (activations calls) ≡ activations calls
 uncapped [] le = refl

@@ -1,4 +1,4 @@
--- How the calls that are restored lie on the stack, and what an instruction makes of them.
+-- How the calls that are restored lie on the stack, and the effect of an instruction on them.
 use Rattle.std.specs.Prelude.{◌≡◌, ℕ, ◌+◌, ◌<◌, Bool, List, [], ◌∷◌, ◌++◌, Option, Some, None, length, map, min, slice_get, vec_capacity}
 use Rattle.lsl_value.specs.declared.tagged.Value.{Value}
 use Rattle.lsl_running.specs.declared.kept.Kept.{Kept}
@@ -15,11 +15,11 @@ use Rattle.lsl_machine.specs.declared.running.Running.{Running}
 use Rattle.lsl_machine.specs.Laid.{Held, flat, activations, machine_of}
 use Rattle.lsl_machine.specs.Rooms.{IsReserved}
 
--- a call as it is kept, whose charge is the greatest number where it is more
+-- a call as it is kept, with a saturated charge
 abbrev pub capped : Activation → Activation
 capped a = record a { charge = min a.charge 18446744073709551615 }
 
--- these calls, this point and these values in hand, and these frames are left; every call has its room
+-- these calls, this point and these current values, and these frames are left; every call has its room
 pub record IsRestoring (bodies : List Body) (r : Restorer) (c : MachineCall) (outer : List MachineCall) (point : ℕ)
     (hand : List Value) (sack : List Frame) : Type 0 where
   pub values : r.stack.items ≡ flat (c ∷ outer)
@@ -34,7 +34,7 @@ pub record IsRestoring (bodies : List Body) (r : Restorer) (c : MachineCall) (ou
   pub frames : r.pack.frames ≡ sack
   pub reserved : IsReserved bodies (vec_capacity r.stack) (c ∷ outer)
 
--- what the instruction makes of them
+-- the effect of the instruction on them
 abbrev pub next_of : List Body → Instr → MachineCall → List MachineCall → ℕ → List Value → List Frame
     → Option Restoring
 next_of bodies i c outer point hand sack =
@@ -51,7 +51,7 @@ abbrev pub CameTo : List Body → Option Restoring → Bool → Restorer → Typ
 CameTo bodies None awake r = ⊥
 CameTo bodies (Some s) awake r = (s.awake ≡ awake) × IsState bodies r s
 
--- the place behind the instruction can be numbered, and the one to which it branches
+-- the place after the instruction can be numbered, and the one to which it branches
 abbrev pub HasPlace : Instr → Restorer → Type 0
 HasPlace Branch r = r.active.place + 1 + r.point < 4294967296
 HasPlace i r = r.active.place + 1 < 4294967296
@@ -63,14 +63,14 @@ CanBack bodies i r =
     × (s : Restoring) × IsRestoring bodies r c outer point hand sack
     × (next_of bodies i c outer point hand sack ≡ Some s) × HasPlace i r
 
--- it did what it is to do
+-- it did what it should
 abbrev pub Backs : List Body → Instr → Restorer → Bool → Restorer → Type 0
 Backs bodies i old awake new =
     (c : MachineCall) (outer : List MachineCall) (point : ℕ) (hand : List Value) (sack : List Frame)
     → IsRestoring bodies old c outer point hand sack
     → CameTo bodies (next_of bodies i c outer point hand sack) awake new
 
--- what stands beside frames: no answer is left
+-- what is beside frames: no answer is left
 abbrev pub beside : Kept → Beside
 beside kept = record { kept = kept; answers = [] }
 

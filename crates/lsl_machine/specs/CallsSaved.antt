@@ -16,7 +16,7 @@ use Rattle.lsl_weave.specs.WovenCalls.{IsAt}
 use Rattle.lsl_machine.specs.declared.saving.Saver.{Saver}
 use Rattle.lsl_machine.specs.Laid.{call_in}
 
--- above these values lie this call's slots and operands, and these values are in hand
+-- above these values lie this call's slots and operands, and these values are kept
 pub record HasCall (s : Saver) (low : List Value) (c : MachineCall) (hand : List Value) : Type 0 where
   pub stack : s.stack.items ≡ (low ++ c.slots) ++ reverse c.operands
   pub function : s.active.function ≡ c.function
@@ -36,7 +36,7 @@ IsSaveAct (Keeps c hand) = Unit {0}
 IsSaveAct (Seals frame) = Unit {0}
 IsSaveAct NoSave = ⊥
 
--- the instruction saves the call in hand
+-- the instruction saves the current call
 abbrev pub CanKeep : Instr → Saver → Type 0
 CanKeep i s =
     (low : List Value) × (c : MachineCall) × (hand : List Value) × HasCall s low c hand
@@ -47,13 +47,13 @@ abbrev pub vacated : Instr → MachineCall → MachineCall
 vacated (KeepSlot n) c = call_at c.function c.place (slice_set c.slots n absent) c.operands
 vacated i c = c
 
--- the instruction kept a value, or came to the end of the frame
+-- the instruction kept a value, or reached the end of the frame
 abbrev pub DidKeep : Instr → List Value → MachineCall → List Value → SaveAct → Option ℕ → Saver → Type 0
 DidKeep i low c hand (Keeps next more) None s = HasCall s low (vacated i next) more
 DidKeep i low c hand (Seals frame) (Some point) s = (frame.point ≡ point) × HasCall s low c hand
 DidKeep i low c hand act point s = ⊥
 
--- the call stands behind a point, whose values it has
+-- the call is after a point, with its values
 abbrev pub IsBehindPoint : List Body → MachineCall → Type 0
 IsBehindPoint bodies c =
     (k : ℕ) × (callee : Option ℕ) × (p : ℕ) × (c.place ≡ k + 1) × IsAt bodies c k callee p
@@ -68,12 +68,12 @@ pub record IsFrameOf (bodies : List Body) (c : MachineCall) (frame : Frame) : Ty
       → repeat (save_step bodies) n (saving (c ∷ outer) [] sack) ≡ Some (saving outer [] (sack ++ frame ∷ [])))
   pub charge : charges_of frame.slots ≡ charges_of c.slots + charges_of c.operands
 
--- it stands behind the calls that were saved before it, and nothing is in hand
+-- it is after the calls that were saved before it, and no value is kept
 abbrev pub HasSealed : List Body → Saver → Saver → Type 0
 HasSealed bodies old new =
     (frame : Frame) × (new.pack ≡ packed (old.pack.frames ++ frame ∷ []) []) × IsFrameOf bodies (call_of old) frame
 
--- saving these calls ends with these frames, and they are charged so
+-- saving these calls ends with these frames, and this is their charge
 pub record AreSaved (bodies : List Body) (calls : List MachineCall) (frames : List Frame) : Type 0 where
   pub ran : (n : ℕ)
       × (repeat (save_step bodies) n (begins_saving calls) ≡ Some (saving [] [] frames))

@@ -18,13 +18,13 @@ Begins f globals limit slots r standing.Ready = Lays r (kept_with globals limit)
 Begins f globals limit slots r standing.Full = limit < used script_charge slots (kept_with globals limit)
 Begins f globals limit slots r s = ⊥
 
--- the machine can run, and stands before no tick
+-- the machine can run, and isn't at a tick
 abbrev pub IsReady : Standing → Type 0
 IsReady standing.Ready = Unit {0}
 IsReady standing.Full = Unit {0}
 IsReady s = ⊥
 
--- what an answer led to, with these answers behind it
+-- what an answer led to, with these answers after it
 abbrev pub went : Standing → List Reply → Machine → Next
 went standing.Ready more m = On (with_answers more m)
 went standing.Full more m = Halts (Faulted StackHeap)

@@ -1,5 +1,4 @@
--- What comes of a machine that stands somewhere, for further ticks and answers; and what a run up to a halt
--- makes of it.
+-- What results from a machine, for further ticks and answers; and the effect of a run up to a halt on that.
 use Rattle.std.specs.Prelude.{◌≡◌, ◌≢◌, ℕ, ◌+◌, true, cond, List, [], ◌∷◌}
 use Rattle.lsl_value.specs.declared.names.BuiltinId.{BuiltinId}
 use Rattle.lsl_table.specs.Calls.{row_of}
@@ -22,13 +21,13 @@ use Rattle.lsl_machine.specs.declared.standing.Halt.{Halt}
 use Rattle.lsl_machine.specs.declared.standing.Halt.TheVariants as halt
 use Rattle.lsl_machine.specs.State.{State, replied_to}
 
--- on from what an answer leads to
+-- continues from what an answer leads to
 abbrev pub run_on : List Body → ℕ → Next → runs.Halt
 run_on bodies t (On m) = run bodies t m
 run_on bodies t (Pauses x) = Over Lost
 run_on bodies t (Halts e) = Over e
 
--- on with answers to this call, which was asked for
+-- continues with answers to the pending call
 abbrev pub answered_with : List Body → BuiltinId → Machine → ℕ → List Reply → runs.Halt
 answered_with bodies id m t [] = Over Lost
 answered_with bodies id m t (r ∷ more) =
@@ -42,7 +41,7 @@ halt_from (standing.Asking id) bodies m t answers = answered_with bodies id m t 
 halt_from (standing.Ended way) bodies m t answers = Over Lost
 halt_from standing.Lost bodies m t answers = Over Lost
 
--- what comes of a machine for so many ticks and these answers
+-- the result of a machine for this many ticks and these answers
 abbrev pub whole_from : List Body → State → ℕ → List Reply → Whole
 whole_from bodies s t answers = told bodies (halt_from s.standing bodies s.machine t answers)
 
@@ -51,7 +50,7 @@ abbrev pub ticks_passed : Standing → ℕ
 ticks_passed standing.AtTick = 1
 ticks_passed s = 0
 
--- what comes of a machine behind this halt
+-- the result of a machine after this halt
 abbrev pub whole_behind : List Body → Halt → State → ℕ → List Reply → Whole
 whole_behind bodies (halt.Asks call) s t [] = whole.Asks call.id call.args
 whole_behind bodies (halt.Asks call) s t (r ∷ more) = whole_from bodies s t (r ∷ more)
@@ -60,13 +59,13 @@ whole_behind bodies (halt.Ended way) s t answers = whole.Ends way s.machine.kept
 whole_behind bodies (halt.Faulted fault) s t answers = whole.Fails fault
 whole_behind bodies halt.NoMemory s t answers = whole.Lost
 
--- unless memory is wanting, what comes of the machine behind the halt is what came of it before
+-- unless memory runs out, the result of the machine after the halt is what it was before
 abbrev pub GoesOn : List Body → State → Halt → State → Type 0
 GoesOn bodies old h new =
     h ≢ halt.NoMemory → (t : ℕ) (answers : List Reply)
     → whole_from bodies old (ticks_passed old.standing + t) answers ≡ whole_behind bodies h new t answers
 
--- the same of the run itself: how it halts
+-- the same for the run itself: how it halts
 abbrev pub HaltsBehind : List Body → Halt → State → ℕ → List Reply → runs.Halt → Type 0
 HaltsBehind bodies (halt.Asks call) s t [] h = told bodies h ≡ whole.Asks call.id call.args
 HaltsBehind bodies (halt.Asks call) s t (r ∷ more) h = h ≡ halt_from s.standing bodies s.machine t (r ∷ more)
@@ -85,11 +84,11 @@ RunsOn bodies old h new =
 abbrev pub StandsCut : List Body → State → Type 0
 StandsCut bodies s = halt_from s.standing bodies s.machine 0 [] ≡ CutAt s.machine
 
--- with no tick more nothing more comes of it
+-- with no tick more nothing more results
 abbrev pub IsCut : List Body → State → Type 0
 IsCut bodies s = whole_from bodies s 0 [] ≡ whole.Cut (active_calls bodies s.machine.calls)
 
--- what is asked for is a call that the host answers, with arguments of its kinds
+-- the pending call is one that the host answers, with arguments of its kinds
 abbrev pub IsAsked : Halt → Type 0
 IsAsked (halt.Asks call) = (is_asked (call_form call.id) ≡ true) × (kinds_of call.args ≡ (row_of call.id).params)
 IsAsked h = Unit {0}

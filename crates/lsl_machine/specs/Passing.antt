@@ -7,7 +7,7 @@ use Rattle.lsl_machine.specs.Futures.{StandsCut, halt_from}
 use Rattle.lsl_machine.specs.Memory.{TakesNone}
 use Rattle.lsl_machine.specs.State.{IsChained, IsOf, State, bodies_of}
 
--- a machine before a tick, and one behind it: with a tick more the one comes to what the other comes to
+-- a machine before a tick, and one after it: with a tick more the one has the result of the other
 pub record PassesTick (unit : Code) (old new : State) : Type 0 where
   pub stands : old.standing ≡ standing.AtTick
   pub runs : (ticks : ℕ) (answers : List Reply)
@@ -17,10 +17,10 @@ pub record PassesTick (unit : Code) (old new : State) : Type 0 where
   pub silent : new.machine.answers ≡ []
   pub of : IsOf unit new
   pub chained : (handler : ℕ) → IsChained (bodies_of unit) handler old → IsChained (bodies_of unit) handler new
-  -- on integers alone, but to enter a function and to ask, the run behind it takes no memory
+  -- on integers alone the rest of the run takes no memory, except to enter a function and to make a host call
   pub memory : new.standing ≡ standing.Ready → TakesNone (bodies_of unit) old → TakesNone (bodies_of unit) new
 
--- so many ticks are passed, each by a machine that stands before it
+-- n ticks are passed, each by a machine before it
 pub data PassesTicks (unit : Code) : ℕ → State → State → Type 0 where
   NoTick : (s : State) → PassesTicks unit 0 s s
   OneMore : (n : ℕ) (s t u : State) → PassesTicks unit n s t → PassesTick unit t u → PassesTicks unit (n + 1) s u

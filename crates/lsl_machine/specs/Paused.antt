@@ -1,4 +1,4 @@
--- A machine that is saved and restored where it stands.
+-- A machine that is saved and restored in place.
 use Rattle.std.specs.Prelude.{◌≡◌, ◌≤◌, ℕ, List, vec_capacity}
 use Rattle.lsl_code.specs.declared.frames.Frame.{Frame}
 use Rattle.lsl_code.specs.Bodies.{Body}

@@ -1,4 +1,4 @@
-//! Host calls: asked for with their arguments, and their room kept for the next.
+//! Host calls: asked for with their arguments, and their buffer kept for the next.
 
 ghost use Rattle.std.specs.Prelude.{◌≡◌, List, drop, reverse, take, IfOk, vec_capacity};
 ghost use Rattle.lsl_code.specs.Bodies.{Body};
@@ -36,7 +36,7 @@ impl Running {
         }
     }
 
-    // The call with its arguments, which are popped. A single one goes into the room that was kept.
+    // The call with its arguments, which are popped. A single one goes into the buffer that was kept.
     #[inline(always)]
     fn take_call(&mut self, id: BuiltinId) -> Result<Call, NoMemory>
         requires { Held self.old }
@@ -57,7 +57,7 @@ impl Running {
         Call::new(self.alloc, id, args)
     }
 
-    // The call with the top operand, which is popped, in this room.
+    // The call with the top operand, which is popped, in this buffer.
     #[inline(always)]
     fn take_argument(&mut self, id: BuiltinId, room: Call) -> Result<Call, NoMemory>
         requires { Held self.old }
@@ -73,7 +73,7 @@ impl Running {
         Ok(call)
     }
 
-    /// Keeps the room of a call that was asked for. Takes no memory.
+    /// Keeps the buffer of a finished call. Takes no memory.
     #[inline(always)]
     pub fn keep_room(&mut self, call: Call)
         ensures laid { (s : Standing) → IsLaid self.old s → IsLaid self.new s }

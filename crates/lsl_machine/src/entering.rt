@@ -1,4 +1,4 @@
-//! The beginning of a handler, and answers to it.
+//! The start of a handler, and answers to it.
 
 ghost use Rattle.std.specs.Prelude.{◌≡◌, ◌+◌, ◌≤◌, ◌<◌, List, cond, nat_le, length, slice_get, IfOk, Some, vec_capacity};
 ghost use Rattle.lsl_running.specs.Charging.{default_limit};
@@ -20,7 +20,7 @@ use lsl_text::NoMemory;
 use lsl_value::{Value, Values};
 use std::alloc::Global;
 
-/// A function before its first tick, where it stands: it may be charged more than the limit.
+/// A function before its first tick, and whether it can run: it may be charged more than the limit.
 pub fn enter(
     alloc: Global,
     unit: &Woven,
@@ -61,7 +61,7 @@ pub fn enter(
     Ok((running, standing_within(charge, global_charge, limit)))
 }
 
-/// Where a machine stands that is charged so much beside its globals, for which it is charged so much.
+/// Where a machine is with this charge beside its globals, and that charge of its globals.
 fn standing_within(charge: u64, global_charge: u64, limit: u32) -> Standing
     ensures { result ≡ cond (nat_le (charge + global_charge) limit) Standing.Ready Standing.Full }
 {
@@ -73,7 +73,7 @@ fn standing_within(charge: u64, global_charge: u64, limit: u32) -> Standing
 }
 
 impl Running {
-    /// Takes the answer to what was asked for, and tells where the machine stands then. Takes no memory.
+    /// Takes the answer to the pending call, and returns where the machine is then. Takes no memory.
     pub fn receive(&mut self, value: Option<Value>) -> Standing
         requires held { Held self.old }
         requires room { length self.old.stack.items < vec_capacity self.old.stack }

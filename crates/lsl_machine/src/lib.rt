@@ -1,5 +1,5 @@
-//! The machine that runs a unit's code, from one tick, ask or end to the next. It answers what a run of the code's
-//! definition comes to, and looks at nothing but the unit.
+//! The machine that runs a unit's code, from one tick, call or end to the next. Its results are those of a run of the
+//! code's definition, and it reads nothing but the unit.
 #![tactic(auto)]
 
 ghost use Rattle.std.specs.Prelude.{◌≡◌, ◌≢◌, ◌<◌, ◌≤◌, [], ◌∷◌, ◌-◌, ◌+◌, ℕ, true, false, List, slice_get, IfOk, OnErr, OnOk};
@@ -64,7 +64,7 @@ pub struct Parked {
     pub kept: Kept,
 }
 
-/// A handler that runs. A contract sees the definition's machine, and where it stands.
+/// A handler that runs. A contract sees the definition's machine, and whether it can run.
 #[derive(Drop)]
 pub struct Machine {
     running: Running,
@@ -84,7 +84,7 @@ impl Model for Machine {
 
 impl Machine {
     /// A function of the unit before its first tick, with these globals, this limit of its charge, and arguments of its
-    /// parameters' kinds. Takes the room for its slots and operands.
+    /// parameters' kinds. Takes memory for its slots and operands.
     pub fn begin(
         alloc: Global,
         unit: &Woven,
@@ -113,10 +113,10 @@ impl Machine {
         Ok(Machine { running, standing })
     }
 
-    /// Goes on to the next tick, ask or end. From a tick it passes that tick; a machine just begun or answered passes
-    /// none. After `NoMemory` or `Faulted` the machine is only to be dropped.
+    /// Continues to the next tick, host call or end. From a tick it passes that tick; a machine just begun or answered
+    /// passes none. After `NoMemory` or `Faulted` the machine must be dropped.
     ///
-    /// Takes no memory on integers, but to enter a function and to ask.
+    /// Takes no memory on integers, except to enter a function and to make a host call.
     #[inline(always)]
     pub fn run(&mut self, unit: &Woven) -> Halt
         requires able { CanRun self.old.standing }
@@ -133,7 +133,7 @@ impl Machine {
         ensures chained { (handler : ℕ) → IsChained (bodies_of unit.now) handler self.old →
             IsChained (bodies_of unit.now) handler self.new }
         ensures charged { IsCharged self.new }
-        // On integers alone it takes no memory, but to enter a function and to ask.
+        // On integers alone it takes no memory, except to enter a function and to make a host call.
         ensures memory { TakesNone (bodies_of unit.now) self.old → result ≢ Halt.NoMemory }
         // Where it asks and has passed no tick, fewer host calls are ahead of it.
         ensures ahead { (call : Call) → result ≡ Halt.Asks call → ticks_passed self.old.standing ≡ 0 →
@@ -144,10 +144,10 @@ impl Machine {
         halt
     }
 
-    /// Passes the tick before which the machine stands, and goes on while it meets nothing but integers and calls of
-    /// functions: whether it stands before a tick again then. Else it can run on from where it came to.
+    /// Passes the current tick, and continues while it meets nothing but integers and calls of functions. Returns
+    /// whether it is at a tick again; otherwise it can run on from where it is.
     ///
-    /// Takes memory only to enter a function, and where that is wanting it stops before it.
+    /// Takes memory only to enter a function, and stops before it if there is none.
     #[inline(always)]
     pub fn pass_tick(&mut self, unit: &Woven) -> bool
         requires stands { self.old.standing ≡ Standing.AtTick }
@@ -163,7 +163,7 @@ impl Machine {
         ensures chained { (handler : ℕ) → IsChained (bodies_of unit.now) handler self.old →
             IsChained (bodies_of unit.now) handler self.new }
         ensures charged { IsCharged self.new }
-        // On integers alone, but to enter a function and to ask, the run behind it takes no memory.
+        // On integers alone the rest of the run takes no memory, except to enter a function and to make a host call.
         ensures memory { result ≡ false → TakesNone (bodies_of unit.now) self.old →
             TakesNone (bodies_of unit.now) self.new }
     {
@@ -171,11 +171,11 @@ impl Machine {
         at_tick
     }
 
-    /// Passes the tick before which the machine stands, and further ones, at most so many in all, while it meets
-    /// nothing but integers and calls of functions: how many were passed, and whether it stands before a tick again
-    /// then. Else it can run on from where it came to.
+    /// Passes the current tick and further ones, at most `ticks` in all, while it meets nothing but integers and calls
+    /// of functions. Returns the number of ticks passed, and whether it is at a tick again; otherwise it can run on
+    /// from where it is.
     ///
-    /// Takes memory only to enter a function, and where that is wanting it stops before it.
+    /// Takes memory only to enter a function, and stops before it if there is none.
     pub fn pass_ticks(&mut self, unit: &Woven, ticks: u32) -> (u32, bool)
         requires some { 0 < ticks }
         requires stands { self.old.standing ≡ Standing.AtTick }
@@ -203,8 +203,7 @@ impl Machine {
         (passed, false)
     }
 
-    /// Gives the answer to what was asked for: a value of the call's result, or none where it has none. Takes
-    /// no memory.
+    /// Gives the answer to the pending call: a value of the call's result, or none if it has none. Takes no memory.
     pub fn answer(&mut self, value: Option<Value>)
         requires { Wants self.old.standing value }
         ensures runs { (bodies : List Body) (ticks : ℕ) (more : List Reply) →
@@ -224,7 +223,7 @@ impl Machine {
         self.standing = self.running.receive(value);
     }
 
-    /// Keeps the room of a call that was asked for, for the next. Takes no memory.
+    /// Keeps the buffer of a finished call, for the next. Takes no memory.
     #[inline(always)]
     pub fn keep_room(&mut self, call: Call)
         ensures { self.new ≡ self.old }
@@ -232,8 +231,8 @@ impl Machine {
         self.running.keep_room(call);
     }
 
-    /// What the unit's own code saves the machine as, which stands at a tick: its calls as frames, and its globals with
-    /// the limit. The values move.
+    /// Saves the machine, which is at a tick, by the unit's own code: its calls as frames, and its globals with the
+    /// limit. The values move.
     pub fn save(self, unit: &Woven) -> Result<Parked, NoMemory>
         requires stands { self.standing ≡ Standing.AtTick }
         requires of { IsOf unit.now self }
@@ -243,7 +242,7 @@ impl Machine {
         ensures kinds { IfOk result (λ parked. kinds_of parked.kept.globals ≡ kinds_of unit.now.globals) }
         ensures valid { IfOk result (λ parked. (handler : ℕ) → IsChained (bodies_of unit.now) handler self →
             AreValid (points_of (bodies_of unit.now)) handler parked.kept.globals parked.kept.limit parked.sack) }
-        // What a unit that weaves saves are the machine's frames.
+        // A unit that weaves saves the machine's frames.
         ensures frames { IfOk result (λ parked. Weaves unit.now →
             parked.sack ≡ frames_of (bodies_of unit.now) self.machine.calls) }
         ensures moves { IfOk result (λ parked. Weaves unit.now → (handler : ℕ) →
@@ -298,8 +297,8 @@ impl Machine {
         Ok(Machine { running, standing })
     }
 
-    /// Saves the calls by the unit's own code, and restores them in the room that they had. After `NoMemory` the
-    /// machine is lost.
+    /// Saves the calls by the unit's own code, and restores them in their old buffers. After `NoMemory` the machine is
+    /// lost.
     #[inline(never)]
     pub fn pause(&mut self, unit: &Woven, handler: u16) -> Result<(), NoMemory>
         requires stands { self.old.standing ≡ Standing.AtTick }

@@ -1,4 +1,4 @@
-//! The script's limit: set, and told.
+//! The script's limit: set and read.
 
 ghost use Rattle.lsl_code.specs.Bodies.{Body};
 ghost use Rattle.lsl_code.specs.declared.instructions.Instr.TheVariants as instrs;
@@ -13,8 +13,8 @@ use lsl_running::granted_limit;
 use lsl_value::Value;
 
 impl Running {
-    /// Pops a number, and pushes whether it is the script's limit now: it isn't where the script, without the number
-    /// and with the answer, would be charged more, nor where no script has such a limit.
+    /// Pops a number, and pushes whether it is the script's limit now. It isn't if the script, without the number and
+    /// with the answer, would be charged more, or if no script may have such a limit.
     pub fn set_limit(&mut self) -> Step
         requires { Able instrs.SetLimit self.old }
         ensures done { (bodies : List Body) → Performs instrs.SetLimit bodies self.old result self.new }

@@ -1,4 +1,4 @@
-//! Operators, casts, lists of operands, and calls that only have a value.
+//! Operators, casts, lists of operands, and pure calls.
 
 ghost use Rattle.std.specs.Prelude.{◌≡◌, ◌+◌, ◌<◌, ◌≤◌, ◌^◌, ◌++◌, pos, List, IfOk, OnOk, length};
 ghost use Rattle.std.specs.List.{flat_map};
@@ -70,7 +70,7 @@ impl Running {
         }
     }
 
-    /// Pops so many elements, and pushes their list.
+    /// Pops `count` elements, and pushes their list.
     pub fn make_list(&mut self, count: u32) -> Step
         requires { Able (instrs.MakeList count) self.old }
         ensures done { (bodies : List Body) →
@@ -86,7 +86,7 @@ impl Running {
         }
     }
 
-    /// Pops the arguments of a call that only has a value, and pushes it.
+    /// Pops the arguments of a pure call, and pushes its value.
     pub fn pure(&mut self, id: BuiltinId) -> Step
         requires { Able (instrs.Pure id) self.old }
         ensures done { (bodies : List Body) → Performs (instrs.Pure id) bodies self.old result self.new }
@@ -102,7 +102,7 @@ impl Running {
         }
     }
 
-    /// Pushes how much the script is charged.
+    /// Pushes the script's charge.
     pub fn push_used(&mut self) -> Step
         requires { Able instrs.Used self.old }
         ensures done { (bodies : List Body) → Performs instrs.Used bodies self.old result self.new }
@@ -113,7 +113,7 @@ impl Running {
         self.give(number(used))
     }
 
-    /// Pushes how much more it may be charged.
+    /// Pushes how much more the script may be charged.
     pub fn give_free(&mut self) -> Step
         requires { Able instrs.Free self.old }
         ensures done { (bodies : List Body) → Performs instrs.Free bodies self.old result self.new }

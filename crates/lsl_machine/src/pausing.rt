@@ -1,4 +1,4 @@
-//! A machine that is saved and restored where it stands.
+//! A machine that is saved and restored in place.
 
 ghost use Rattle.std.specs.Prelude.{◌≡◌, ◌≤◌, [], ℕ, OnOk, length};
 ghost use Rattle.lsl_running.specs.Charging.{default_limit};
@@ -21,9 +21,9 @@ use lsl_text::NoMemory;
 use std::mem::replace;
 
 impl Running {
-    /// Saves the calls by the unit's own code, and restores them in the room that they had. Where the code of all calls
-    /// keeps their values, and puts them back, in the order in which they lie, none moves. After `NoMemory` the machine
-    /// is lost.
+    /// Saves the calls by the unit's own code, and restores them in their old buffers. If the code of all calls keeps
+    /// their values, and puts them back, in the order in which they lie, none moves. After `NoMemory` the machine is
+    /// lost.
     pub fn pause(&mut self, unit: &Woven, handler: u16) -> Result<(), NoMemory>
         requires laid { Held self.old }
         requires rests { (handler : ℕ) × RestAtTick (bodies_of unit.now) handler (machine_of self.old).calls }
@@ -36,7 +36,7 @@ impl Running {
         }
     }
 
-    // The calls are saved as they lie.
+    // Saves the calls as they lie.
     #[inline(always)]
     fn pause_as_they_lie(
         &mut self,
@@ -80,7 +80,7 @@ impl Running {
         callers
     }
 
-    // The machine has these calls, and the values of these frames.
+    // Gives the machine these calls, and the values of these frames.
     #[inline(always)]
     fn settle(&mut self, layout: Layout, sack: Sack) -> Result<(), NoMemory>
         requires { length (values_of sack) ≤ layout.room }
@@ -101,7 +101,7 @@ impl Running {
         Ok(())
     }
 
-    // The calls that were saved come back instruction by instruction, beside the globals.
+    // Restores the saved calls instruction by instruction, beside the globals.
     #[inline(never)]
     fn wake_by_code(&mut self, unit: &Woven, handler: u16, sack: Sack) -> Result<(), NoMemory>
         requires valid { AreValid (points_of (bodies_of unit.now)) handler self.old.globals.items self.old.limit sack }
@@ -116,7 +116,7 @@ impl Running {
         Ok(())
     }
 
-    // The calls are saved and restored instruction by instruction.
+    // Saves and restores the calls instruction by instruction.
     #[inline(never)]
     fn pause_by_code(&mut self, unit: &Woven, handler: u16) -> Result<(), NoMemory>
         requires laid { Held self.old }

@@ -24,8 +24,8 @@ use lsl_text::NoMemory;
 use lsl_value::Value;
 use std::alloc::Global;
 
-/// The calls that are restored so far, the point of the frame in hand, and the frames that are left, with the values in
-/// hand. Of the innermost call the charge is kept that the calls around it have.
+/// The calls that are restored so far, the current frame's point, and the frames that are left, with the current
+/// values. For the innermost call the charge of the calls around it is kept.
 #[derive(Drop)]
 pub struct Restorer {
     pub alloc: Global,
@@ -72,7 +72,7 @@ impl Restorer {
         })
     }
 
-    /// Performs one instruction, and tells whether restoring has ended.
+    /// Performs one instruction, and returns whether restoring has ended.
     #[inline(always)]
     pub fn back(&mut self, unit: &Woven, instr: &Instr) -> Result<bool, NoMemory>
         requires { CanBack (bodies_of unit.now) instr.now self.old }
@@ -115,7 +115,7 @@ impl Restorer {
         }
     }
 
-    /// Takes the outermost frame in hand.
+    /// Makes the outermost frame the current one.
     #[inline(always)]
     fn unpack(&mut self)
         requires { (bodies : List Body) × CanBack bodies instrs.Unpack self.old }
@@ -187,7 +187,7 @@ impl Restorer {
         Ok(())
     }
 
-    /// Goes on behind the instruction, or where the jump there leads.
+    /// Continues after the instruction, or where the jump there leads.
     #[inline(always)]
     fn land(&mut self, unit: &Woven)
         requires { self.old.active.place + 1 < 4294967296 }
@@ -202,7 +202,7 @@ impl Restorer {
         self.active.place = landing(unit, self.active.function, self.active.place + 1);
     }
 
-    /// What the call in hand and the calls around it are charged, and the greatest number where it is more.
+    /// The charge of the current call and the calls around it, saturated.
     fn charge(&self) -> u64
         requires { self.now.active.base ≤ length self.now.stack.items }
         ensures { (bodies : List Body) (c : MachineCall) (outer : List MachineCall) (point : ℕ) (hand : List Tagged)
@@ -295,7 +295,7 @@ pub fn restore(
     }
 }
 
-/// The same, instruction by instruction.
+/// Like `restore`, instruction by instruction.
 pub fn restore_by_code(
     alloc: Global,
     unit: &Woven,

@@ -4,7 +4,7 @@ use lsl_running::{Call, Fault, Outcome};
 use lsl_value::Value;
 use std::alloc::Global;
 
-/// A call: where its slots and its operands begin in the one vector, and what is charged of all up to it.
+/// A call: where its slots and its operands begin in the one vector, and the charge of all up to it.
 #[derive(Clone, Copy)]
 pub struct Activation {
     pub function: u16,
@@ -14,8 +14,8 @@ pub struct Activation {
     pub charge: u64,
 }
 
-/// The globals with their charge, the limit, the call in hand, the calls around it from the outermost, and what all of
-/// them hold.
+/// The globals with their charge, the limit, the current call, the calls around it from the outermost, and the values
+/// of all of them.
 #[derive(Drop)]
 pub struct Running {
     pub alloc: Global,
@@ -25,12 +25,12 @@ pub struct Running {
     pub active: Activation,
     pub callers: Vec<Activation>,
     pub stack: Vec<Value>,
-    /// a call that was answered, whose room serves the next
+    /// a finished call, with a buffer that the next one uses
     pub spare: Option<Call>,
 }
 
 impl Running {
-    /// Without a call and without globals: what stands where a machine is that is being saved. Takes no memory.
+    /// Without a call and without globals: a placeholder for a machine that is being saved. Takes no memory.
     pub fn vacant(alloc: Global) -> Running {
         Running {
             alloc,
@@ -51,7 +51,7 @@ impl Running {
     }
 }
 
-/// What one instruction comes to.
+/// The result of one instruction.
 #[derive(Drop)]
 pub enum Step {
     Goes,
@@ -59,7 +59,7 @@ pub enum Step {
     Asks(Call),
     Ends(Outcome),
     Faults(Fault),
-    /// No instruction, or none that finds its operands: no code of a unit comes here.
+    /// No instruction, or one without its operands: no code of a unit gets here.
     Lost,
     NoMemory,
 }

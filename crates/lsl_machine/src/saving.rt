@@ -21,8 +21,8 @@ use lsl_text::NoMemory;
 use lsl_value::{Value, Values};
 use std::mem::replace;
 
-/// A call on its way to a frame, above the calls that wait for it. The values that are kept so far are in the pack's
-/// hand, behind the frames that are saved.
+/// A call on its way to a frame, above the calls that wait for it. The values that are kept so far are in the pack,
+/// after the frames that are saved.
 #[derive(Drop)]
 pub struct Saver {
     pub active: Activation,
@@ -31,7 +31,7 @@ pub struct Saver {
 }
 
 impl Saver {
-    /// Keeps the call in hand as its function's code does, and leaves it.
+    /// Keeps the current call as its function's code does, and leaves it.
     #[inline(never)]
     fn seal(&mut self, unit: &Woven) -> Result<(), NoMemory>
         requires { CanSeal (bodies_of unit.now) self.old }
@@ -53,7 +53,7 @@ impl Saver {
         unreachable!()
     }
 
-    /// Performs one instruction. At a seal it answers the point.
+    /// Performs one instruction. At a seal it returns the point.
     #[inline(always)]
     fn keep(&mut self, instr: &Instr) -> Result<Option<u16>, NoMemory>
         requires { CanKeep instr.now self.old }
@@ -84,7 +84,7 @@ impl Saver {
         }
     }
 
-    /// Moves a slot's value to the hand.
+    /// Moves a slot's value to the pack.
     #[inline(always)]
     fn keep_slot(&mut self, n: u16) -> Result<(), NoMemory>
         requires { CanKeep (instrs.KeepSlot n) self.old }
@@ -100,7 +100,7 @@ impl Saver {
         Ok(())
     }
 
-    /// Moves the topmost operand to the hand.
+    /// Moves the topmost operand to the pack.
     #[inline(always)]
     fn keep_top(&mut self) -> Result<(), NoMemory>
         requires { CanKeep instrs.KeepTop self.old }
@@ -117,7 +117,7 @@ impl Saver {
         Ok(())
     }
 
-    /// Closes the frame in hand at this point, and leaves the call.
+    /// Closes the current frame at this point, and leaves the call.
     fn close(&mut self, point: u16) -> Result<(), NoMemory>
         ensures sealed { OnOk result (self.new.pack ≡ packed
             (self.old.pack.frames ++ frame_of self.old.active.function point self.old.pack.hand ∷ []) []) }
@@ -129,7 +129,7 @@ impl Saver {
 }
 
 impl Running {
-    /// What the unit's own code saves the calls as, and the globals with the limit. Where the code of all calls keeps
+    /// What the unit's own code saves the calls as, and the globals with the limit. If the code of all calls keeps
     /// their values in the order in which they lie, no value moves.
     pub fn save(self, unit: &Woven) -> Result<(Sack, Kept), NoMemory>
         requires laid { Held self }
@@ -143,7 +143,7 @@ impl Running {
         }
     }
 
-    // The calls as they lie, where they are saved so.
+    // The calls as they lie, if they are saved this way.
     #[inline(always)]
     fn into_sack(self, marks: Marks) -> (Sack, Kept)
         requires { EndsWithin 0 marks.outer.items (length self.stack.items) }
@@ -163,7 +163,7 @@ impl Running {
         (sack, kept)
     }
 
-    /// The same, instruction by instruction.
+    /// Like `save`, instruction by instruction.
     #[inline(never)]
     pub fn save_by_code(self, unit: &Woven) -> Result<(Sack, Kept), NoMemory>
         requires laid { Held self }

@@ -1,4 +1,4 @@
-//! Where a machine stands, and what it answers.
+//! Whether a machine can run, and how it halts.
 
 ghost use Rattle.std.specs.Prelude.{◌≡◌};
 ghost use Rattle.lsl_machine.specs.Steps.{HasHalted, halt_at};
@@ -8,20 +8,20 @@ use crate::running::Step;
 use lsl_running::{Call, Fault, Outcome};
 use lsl_value::BuiltinId;
 
-/// Where a machine stands between calls.
+/// Where a machine is between calls.
 #[derive(Clone, Copy)]
 pub enum Standing {
     /// It was begun or answered, and can run.
     Ready,
     /// It was begun or answered, and is charged more than its limit.
     Full,
-    /// It stands before a tick, and can run.
+    /// It is at a tick, and can run.
     AtTick,
     /// It asked for this host call, and waits for the answer.
     Asking(BuiltinId),
     /// Its handler ended.
     Ended(Outcome),
-    /// It faulted or lacked memory in the middle, and is only to be dropped.
+    /// It faulted or ran out of memory in the middle, and must be dropped.
     Lost,
 }
 
@@ -35,7 +35,7 @@ pub enum Halt {
     NoMemory,
 }
 
-/// The halt that a step comes to.
+/// The halt that a step results in.
 pub fn halt_of(step: Step) -> Halt
     requires { HasHalted step }
     ensures { result ≡ halt_at step }
@@ -50,7 +50,7 @@ pub fn halt_of(step: Step) -> Halt
     }
 }
 
-/// Where a machine stands after a halt.
+/// Where a machine is after a halt.
 pub fn standing_at(halt: &Halt) -> Standing
     ensures { result ≡ standing_of halt.now }
 {

@@ -1,4 +1,4 @@
--- What is answered where a listen is asked for.
+-- The answer when a listen is asked for.
 use Rattle.std.specs.Prelude.{◌≡◌, ◌<◌, ◌≤◌, ℤ, Some, None, length, MatchResult}
 use Rattle.std.specs.declared.result.Result.{Result}
 use Rattle.lsl_post.specs.declared.filters.Filter.{Filter}
@@ -6,8 +6,7 @@ use Rattle.lsl_post.specs.declared.listen.ListenFault.{ListenFault}
 use Rattle.lsl_post.specs.declared.listen.ListenFault.TheVariants.{TooMany}
 use Rattle.lsl_post.specs.Listens.{free_number, listened, most_listens, with_listen, Standing}
 
--- the number of the listen, with the listens then; or all stays as it was, for want of memory or since too many
--- stand
+-- the number of the listen, with the listens then; or all is unchanged, when out of memory or since there are too many
 abbrev pub GivesListen : Filter → Standing → Standing → Result ℤ ListenFault → Type 0
 GivesListen f old new result =
     MatchResult result (λ number. listened f old ≡ Some (number, new))

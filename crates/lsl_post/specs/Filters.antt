@@ -1,4 +1,4 @@
--- What a listen asks of a text that is said: four values, which are compared as they were handed in.
+-- What a listen asks of spoken text: four values, which are compared as they were passed.
 use Rattle.std.specs.Prelude.{ℕ, ℤ, Bool, ◌&&◌, ◌||◌, not, nat_lt, List, length}
 use Rattle.std.specs.Ordering.{int_eq}
 use Rattle.std.specs.Str.{bytes_eq}
@@ -13,14 +13,14 @@ same_filter a b =
     int_eq a.channel b.channel
     && (bytes_eq a.name b.name && (bytes_eq a.id b.id && bytes_eq a.message b.message))
 
--- an id that is no valid key, or the key of zeros, asks nothing
+-- an id that isn't a valid key, or is the key of zeros, asks nothing
 abbrev pub is_any_id : List ℕ → Bool
 is_any_id id = not (is_valid_key id) || is_null_key id
 
 abbrev pub is_nothing : List ℕ → Bool
 is_nothing text = not (nat_lt 0 (length text))
 
--- the text that is said has what is asked: the channel, and each of the others that isn't wild
+-- spoken text has what is asked: the channel, and each of the others that isn't wild
 abbrev pub fits_filter : Filter → Filter → Bool
 fits_filter asked said =
     int_eq asked.channel said.channel && (is_nothing asked.name || bytes_eq asked.name said.name)

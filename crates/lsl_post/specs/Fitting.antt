@@ -22,7 +22,7 @@ is_exit e = same_event e.id event.StateExit
 abbrev pub has_handler : List StateCode → ℕ → EventId → Bool
 has_handler states state id = is_some (handler_of states state id)
 
--- an event that waits in this state: it has a handler, and is no exit
+-- an event that waits in this state: it has a handler, and isn't an exit
 pub record CanWait (states : List StateCode) (state : ℕ) (e : Event) : Type 0 where
   pub handled : has_handler states state e.id ≡ true
   pub other : is_exit e ≡ false
@@ -37,19 +37,19 @@ abbrev pub CanLeave : List StateCode → ℕ → Option ℕ → Type 0
 CanLeave states state None = Unit {0}
 CanLeave states state (Some to) = CanLeaveFor states state to
 
--- where a script stands, what it leaves for, and which events wait
+-- the script's state, what it leaves for, and which events wait
 pub record FitsStates (states : List StateCode) (state : ℕ) (leaving : Option ℕ) (queue : List Event) : Type 0 where
   pub stands : state < length states
   pub leaves : CanLeave states state leaving
   pub waits : All (CanWait states state) queue
 
--- the event in hand, whose handler is this function: it is an exit exactly where one is due
+-- the current event, with this function as its handler: it is an exit exactly where one is due
 pub record IsInHand (states : List StateCode) (state : ℕ) (leaving : Option ℕ) (e : Event) (handler : ℕ) : Type 0
   where
     pub handled : handler_of states state e.id ≡ Some handler
     pub exit : is_exit e ≡ is_some leaving
 
--- saved calls are those of the handler of the event in hand, and are charged within the limit beside the globals
+-- saved calls are those of the current event's handler, and are charged within the limit beside the globals
 abbrev pub CanRest : Code → (state : ℕ) → Option ℕ → List Value → ℕ → Rest → Type 0
 CanRest unit state leaving globals limit Idle = Unit {0}
 CanRest unit state leaving globals limit (Saved e frames) =

@@ -15,11 +15,11 @@ pub record Standing : Type 0 where
 abbrev pub standing : ℤ → List Listen → Standing
 standing next list = record { next = next; list = list }
 
--- none stands, and the next number is 1
+-- no listens, and the next number is 1
 abbrev pub no_listens : Standing
 no_listens = standing (pos 1) []
 
--- how many listens stand at most
+-- the greatest number of listens
 abbrev pub most_listens : ℕ
 most_listens = 65
 
@@ -45,12 +45,12 @@ pub record IsStanding (s : Standing) : Type 0 where
   pub numbers_differ : IsDistinct int_eq (map number_of s.list)
   pub filters_differ : IsDistinct same_filter (map filter_of s.list)
 
--- the number after a number: 1 behind the greatest
+-- the number after a number: 1 after the greatest
 abbrev pub number_after : ℤ → ℤ
 number_after (pos n) = if nat_lt n 2147483647 then pos (n + 1) else pos 1
 number_after (negsuc n) = pos 1
 
--- so many numbers, from one on
+-- n numbers, from one on
 unfoldable pub numbers_from : ℕ → ℤ → List ℤ
 numbers_from zero n = []
 numbers_from (suc count) n = n ∷ numbers_from count (number_after n)
@@ -58,7 +58,7 @@ numbers_from (suc count) n = n ∷ numbers_from count (number_after n)
 abbrev pub has_number : List Listen → ℤ → Bool
 has_number list n = list_any (int_eq n) (map number_of list)
 
--- the first of these that no listen has, and 0, which is no number, where there is none
+-- the first of these that no listen has, and 0, which isn't a listen's number, where there is none
 unfoldable pub first_free : List Listen → List ℤ → ℤ
 first_free list [] = pos 0
 first_free list (n ∷ ns) = if has_number list n then first_free list ns else n
@@ -85,8 +85,8 @@ with_active_at active (suc place) (l ∷ ls) = l ∷ with_active_at active place
 abbrev pub with_listen : Filter → Standing → Standing
 with_listen f s = standing (number_after (free_number s)) (s.list ++ listen_of (free_number s) f ∷ [])
 
--- a listen is asked for: its number, and the listens then. The one with these values goes on, and is active;
--- there is nothing where none has them and 65 stand
+-- a listen is asked for: its number, and the listens then. The one with these values is reused, and is active; there is
+-- nothing if none has them and there are 65
 abbrev pub listened_at : Filter → Standing → Option ℕ → Option (ℤ × Standing)
 listened_at f s (Some place) =
     option_map (λ l. (l.number, standing s.next (with_active_at true place s.list))) (slice_get s.list place)
@@ -96,7 +96,7 @@ listened_at f s None =
 abbrev pub listened : Filter → Standing → Option (ℤ × Standing)
 listened f s = listened_at f s (place_of_filter f s.list)
 
--- the listen of a number goes, if it stands
+-- the listen of a number goes, if there is one
 abbrev pub closed_at : Standing → Option ℕ → Standing
 closed_at s None = s
 closed_at s (Some place) = standing s.next (remove s.list place)
@@ -104,7 +104,7 @@ closed_at s (Some place) = standing s.next (remove s.list place)
 abbrev pub closed : ℤ → Standing → Standing
 closed n s = closed_at s (place_of_number n s.list)
 
--- the listen of a number is active or not, if it stands
+-- the listen of a number is active or not, if there is one
 abbrev pub controlled_at : Bool → Standing → Option ℕ → Standing
 controlled_at active s None = s
 controlled_at active s (Some place) = standing s.next (with_active_at active place s.list)
@@ -112,7 +112,7 @@ controlled_at active s (Some place) = standing s.next (with_active_at active pla
 abbrev pub controlled : ℤ → Bool → Standing → Standing
 controlled n active s = controlled_at active s (place_of_number n s.list)
 
--- a listen that is active hears what has all that it asks
+-- a listen that is active hears what has all that it asks for
 abbrev pub is_heard : Filter → Listen → Bool
 is_heard said l = l.active && fits_filter (filter_of l) said
 

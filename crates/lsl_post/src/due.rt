@@ -41,8 +41,8 @@ impl Due {
         }
     }
 
-    /// The script is due at this time, or at none, whenever it was before. Takes memory for the first time of a
-    /// script, and for a new one; its cost is the logarithm of all.
+    /// Sets the time at which the script is due, or that it isn't. Takes memory for the first time of a script, and for
+    /// a new one; its cost is the logarithm of all.
     pub fn put(&mut self, script: u32, due: Option<u64>) -> Result<(), NoMemory>
         ensures ok { OnOk result (Puts script due self.old self.new) }
         ensures unchanged { OnErr result (self.new ≡ self.old) }

@@ -10,7 +10,7 @@ use std::alloc::Global;
 use std::marker::Model;
 use std::mem;
 
-/// How a text is said.
+/// How text is spoken.
 #[derive(Clone, Copy, PartialEq, Eq)]
 pub enum Voice {
     Say,
@@ -26,7 +26,7 @@ pub enum Entry {
     Took(u32, Event),
     /// the event found the queue full
     Drop(u32, Event),
-    /// so many waiting events went, at a change of state or a reset
+    /// this many waiting events went, at a change of state or a reset
     Clear(u32, u32),
     /// the text was said on this channel
     Chat(u32, Voice, i32, Text),
@@ -89,7 +89,7 @@ impl Entries {
         Ok(())
     }
 
-    /// Puts an entry in the place of the one that stands there. Takes no memory.
+    /// Replaces the entry at this place. Takes no memory.
     pub fn replace(&mut self, place: usize, entry: Entry)
         requires { place < length self.old }
         ensures { self.new ≡ slice_set self.old place entry }
@@ -97,7 +97,7 @@ impl Entries {
         drop_entry(mem::replace(&mut self.list[place], entry));
     }
 
-    /// Drops the entries behind the first so many. Takes no memory.
+    /// Drops the entries after the first `count`. Takes no memory.
     pub fn truncate(&mut self, count: usize)
         ensures { self.new ≡ take count self.old }
     {

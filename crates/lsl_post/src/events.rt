@@ -8,7 +8,7 @@ use lsl_text::NoMemory;
 use lsl_value::{EventId, Text, Values};
 use std::alloc::Global;
 
-/// Who touched a prim: a key, a name, and the number of the touched prim.
+/// The toucher of a prim: a key, a name, and the number of the touched prim.
 #[derive(Drop)]
 pub struct Toucher {
     pub key: Text,
@@ -29,7 +29,7 @@ impl Toucher {
     }
 }
 
-/// An event: which one, its arguments, which have the kinds of its parameters, and who touched.
+/// An event: its name, its arguments of the kinds of its parameters, and its toucher.
 #[derive(Drop)]
 pub struct Event {
     pub id: EventId,

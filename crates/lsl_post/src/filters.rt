@@ -1,4 +1,4 @@
-//! What a listen asks of a text that is said.
+//! What a listen asks of spoken text.
 
 ghost use Rattle.std.specs.Prelude.{◌≡◌, ◌++◌};
 ghost use Rattle.std.specs.Cmp.{partial_equiv_from_equiv};
@@ -11,7 +11,7 @@ ghost use Rattle.lsl_post.specs.Filters.{same_filter};
 use lsl_value::Text;
 use std::hash::{Hash, Hasher};
 
-/// The four values that a listen is asked for with, as they were handed in.
+/// The four values of a listen, as they were passed.
 #[derive(Drop)]
 pub struct Filter {
     pub channel: i32,

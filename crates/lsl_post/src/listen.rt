@@ -12,7 +12,7 @@ use lsl_value::{Text, valid_key};
 /// The key of zeros.
 const NULL_KEY: &str = "00000000-0000-0000-0000-000000000000";
 
-/// A listen: its number, whether it is active, and what it asks of a text that is said
+/// A listen: its number, whether it is active, and what it asks of spoken text
 /// (<https://wiki.secondlife.com/wiki/LlListen>).
 #[derive(Drop)]
 pub struct Listen {
@@ -78,8 +78,7 @@ impl Listen {
         self.number == number
     }
 
-    /// Whether it is active and hears this text, said on this channel by who has this name and key. Takes no
-    /// memory.
+    /// Whether it is active and hears this text, said on this channel under this name and key. Takes no memory.
     pub fn hears(&self, channel: i32, name: &Text, id: &Text, message: &Text) -> bool
         ensures { result ≡ is_heard (filter channel name.now id.now message.now) self.now }
     {
@@ -98,7 +97,7 @@ fn is_nothing(text: &Text) -> bool
     text.bytes().is_empty()
 }
 
-// Whether an id asks nothing: no valid key, or the key of zeros.
+// Whether an id asks nothing: it isn't a valid key, or is the key of zeros.
 fn is_any_id(id: &Text) -> bool
     ensures { result ≡ is_any_id id.now }
 {
@@ -108,7 +107,7 @@ fn is_any_id(id: &Text) -> bool
 /// Why a listen isn't added.
 #[derive(Clone, Copy, PartialEq, Eq)]
 pub enum ListenFault {
-    /// 65 listens stand, none of them with these values
+    /// there are 65 listens, none of them with these values
     TooMany,
     NoMemory,
 }

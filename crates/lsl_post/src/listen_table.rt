@@ -15,7 +15,7 @@ use lsl_value::Text;
 use std::alloc::Global;
 use std::marker::Model;
 
-/// How many listens stand at most.
+/// The greatest number of listens.
 const MOST_LISTENS: usize = 65;
 
 /// At most 65 listens, in the order in which they were asked for, with the number of the next. They are found
@@ -38,7 +38,7 @@ impl Model for ListenTable {
 }
 
 impl ListenTable {
-    /// None stands, and the next number is 1. Takes no memory.
+    /// No listens, and the next number is 1. Takes no memory.
     pub(crate) fn new(alloc: Global) -> ListenTable
         ensures { result ≡ no_listens }
     {
@@ -61,14 +61,14 @@ impl ListenTable {
         Ok(listens)
     }
 
-    /// The number from which on the next listen's is looked for. Takes no memory.
+    /// Where the search for the next listen's number begins. Takes no memory.
     pub(crate) fn next(&self) -> i32
         ensures { result ≡ self.now.next }
     {
         self.next
     }
 
-    /// How many listens stand. Takes no memory.
+    /// The number of listens. Takes no memory.
     pub(crate) fn count(&self) -> u32
         ensures value { result ≡ length self.now.list }
         ensures standing { IsStanding self.now }
@@ -87,8 +87,8 @@ impl ListenTable {
         }
     }
 
-    /// Asks for a listen, and gives its number. Where one with these values stands, that one goes on and is
-    /// active; else a new one has the first number that is free. Walks the listens for that number.
+    /// Asks for a listen, and returns its number. A listen with these values is reused and becomes active; otherwise a
+    /// new one gets the first free number. Walks the listens for that number.
     pub(crate) fn add(
         &mut self,
         channel: i32,
@@ -110,7 +110,7 @@ impl ListenTable {
         }
     }
 
-    /// Forgets the listen of this number, if there is one. Takes no memory; walks the listens.
+    /// Removes the listen of this number, if there is one. Takes no memory; walks the listens.
     pub(crate) fn close(&mut self, number: i32)
         ensures { self.new ≡ closed number self.old }
     {
@@ -128,8 +128,8 @@ impl ListenTable {
         }
     }
 
-    /// Whether an active listen hears this text, said on this channel by who has this name and key. Takes no
-    /// memory; walks the listens.
+    /// Whether an active listen hears this text, said on this channel under this name and key. Takes no memory; walks
+    /// the listens.
     pub(crate) fn hears(&self, channel: i32, name: &Text, id: &Text, message: &Text) -> bool
         ensures { result ≡ hears (filter channel name.now id.now message.now) self.now }
     {
@@ -141,7 +141,7 @@ impl ListenTable {
         false
     }
 
-    /// Forgets all listens; numbers go on. Takes no memory.
+    /// Removes all listens; the numbering continues. Takes no memory.
     pub(crate) fn clear(&mut self)
         ensures { self.new ≡ standing self.old.next [] }
     {
@@ -161,7 +161,7 @@ impl ListenTable {
 }
 
 impl ListenTable {
-    // None stands, and this is the next number.
+    // No listens, and this is the next number.
     fn empty(alloc: Global, next: i32) -> ListenTable
         requires { is_number next ≡ true }
         ensures { result ≡ standing next [] }
@@ -172,7 +172,7 @@ impl ListenTable {
         }
     }
 
-    // Makes the listen at this place active or not. Its number.
+    // Makes the listen at this place active or not. Returns its number.
     fn set_active(&mut self, place: usize, active: bool) -> i32
         requires { place < length self.old.list }
         ensures number { Some result ≡ option_map number_of (slice_get self.old.list place) }
@@ -183,7 +183,7 @@ impl ListenTable {
         listen.number
     }
 
-    // Forgets the listen at this place.
+    // Removes the listen at this place.
     fn remove_at(&mut self, place: usize)
         ensures { self.new ≡ standing self.old.next (remove self.old.list place) }
     {
@@ -204,7 +204,7 @@ impl ListenTable {
         Ok(number)
     }
 
-    // Adds a listen, whose number and values no other has.
+    // Adds a listen with a number and values that no other has.
     fn push(&mut self, listen: Listen) -> Result<(), NoMemory>
         requires { IsStanding (standing self.old.next (self.old.list ++ listen ∷ [])) }
         ensures ok { OnOk result (self.new ≡ standing self.old.next (self.old.list ++ listen ∷ [])) }

@@ -12,8 +12,8 @@ use lsl_value::Text;
 use std::alloc::Global;
 use std::marker::Model;
 
-/// At most 65 listens, in the order in which they were asked for, with the number of the next. Where none was ever
-/// asked for there is no table of them.
+/// At most 65 listens, in the order in which they were asked for, with the number of the next. Without any listen ever
+/// there is no table.
 #[derive(Drop)]
 pub struct Listens {
     alloc: Global,
@@ -30,7 +30,7 @@ impl Model for Listens {
 }
 
 impl Listens {
-    /// None stands, and the next number is 1. Takes no memory.
+    /// No listens, and the next number is 1. Takes no memory.
     pub fn new(alloc: Global) -> Listens
         ensures { result ≡ no_listens }
     {
@@ -46,7 +46,7 @@ impl Listens {
         Listens::of(alloc, table)
     }
 
-    /// The number from which on the next listen's is looked for. Takes no memory.
+    /// Where the search for the next listen's number begins. Takes no memory.
     pub fn next(&self) -> i32
         ensures { result ≡ self.now.next }
     {
@@ -56,7 +56,7 @@ impl Listens {
         }
     }
 
-    /// How many listens stand. Takes no memory.
+    /// The number of listens. Takes no memory.
     pub fn count(&self) -> u32
         ensures value { result ≡ length self.now.list }
         ensures standing { IsStanding self.now }
@@ -78,8 +78,8 @@ impl Listens {
         }
     }
 
-    /// Asks for a listen, and gives its number. Where one with these values stands, that one goes on and is
-    /// active; else a new one has the first number that is free. Walks the listens for that number.
+    /// Asks for a listen, and returns its number. A listen with these values is reused and becomes active; otherwise a
+    /// new one gets the first free number. Walks the listens for that number.
     pub fn add(
         &mut self,
         channel: i32,
@@ -95,7 +95,7 @@ impl Listens {
         table.add(channel, name, id, message)
     }
 
-    /// Forgets the listen of this number, if there is one. Takes no memory; walks the listens.
+    /// Removes the listen of this number, if there is one. Takes no memory; walks the listens.
     pub fn close(&mut self, number: i32)
         ensures { self.new ≡ closed number self.old }
     {
@@ -113,8 +113,8 @@ impl Listens {
         }
     }
 
-    /// Whether an active listen hears this text, said on this channel by who has this name and key. Takes no
-    /// memory; walks the listens.
+    /// Whether an active listen hears this text, said on this channel under this name and key. Takes no memory; walks
+    /// the listens.
     pub fn hears(&self, channel: i32, name: &Text, id: &Text, message: &Text) -> bool
         ensures { result ≡ hears (filter channel name.now id.now message.now) self.now }
     {
@@ -124,7 +124,7 @@ impl Listens {
         }
     }
 
-    /// Forgets all listens; numbers go on. Takes no memory.
+    /// Removes all listens; the numbering continues. Takes no memory.
     pub fn clear(&mut self)
         ensures { self.new ≡ standing self.old.next [] }
     {
@@ -143,7 +143,7 @@ impl Listens {
         }
     }
 
-    // Asks for a listen where none was ever asked for.
+    // Asks for the first listen ever.
     fn add_first(
         &mut self,
         channel: i32,

@@ -23,14 +23,14 @@ impl ListenTable {
         number
     }
 
-    // Whether a listen of this number stands.
+    // Whether there is a listen of this number.
     fn has_number(&self, number: i32) -> bool
         ensures { result ≡ has_number self.now.list number }
     {
         self.place_of(number).is_some()
     }
 
-    /// The place of the listen of this number, if it stands. Takes no memory; walks the listens.
+    /// The place of the listen of this number, if there is one. Takes no memory; walks the listens.
     pub(crate) fn place_of(&self, number: i32) -> Option<u32>
         ensures place { result ≡ place_of_number number self.now.list }
         ensures within { IfSome result (λ place. place < length self.now.list) }
@@ -44,7 +44,7 @@ impl ListenTable {
     }
 }
 
-/// The number after a number: 1 behind the greatest.
+/// The number after a number: 1 after the greatest.
 pub(crate) fn number_after(number: i32) -> i32
     requires { is_number number ≡ true }
     ensures { result ≡ number_after number }

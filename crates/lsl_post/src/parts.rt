@@ -32,7 +32,7 @@ pub enum Rest {
     Dead(Fault),
 }
 
-/// What becomes of an event that is posted.
+/// What happened to a posted event.
 #[derive(Drop)]
 pub enum Posted {
     Queued,

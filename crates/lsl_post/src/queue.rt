@@ -42,7 +42,7 @@ impl Queue {
         })
     }
 
-    /// The event that waits longest, which goes. None where none waits.
+    /// Removes and returns the event that waits longest, or none where none waits.
     pub fn take(&mut self) -> Option<Event>
         ensures value { result ≡ slice_get self.old 0 }
         ensures rest { self.new ≡ drop 1 self.old }
@@ -50,7 +50,7 @@ impl Queue {
         self.ring.pop_front()
     }
 
-    /// Adds the event last, or gives it back where 64 wait.
+    /// Adds the event last, or returns it if 64 wait already.
     pub fn put(&mut self, event: Event) -> Option<Event>
         ensures value { result ≡ put_back event self.old }
         ensures queue { self.new ≡ with_event event self.old }
@@ -61,7 +61,7 @@ impl Queue {
         }
     }
 
-    /// Forgets all events. How many went.
+    /// Removes all events. Returns how many there were.
     pub fn clear(&mut self) -> u32
         ensures value { result ≡ length self.old }
         ensures queue { self.new ≡ [] }

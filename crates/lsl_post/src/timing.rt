@@ -17,7 +17,7 @@ impl Timer {
         Timer { period: 0, due: 0 }
     }
 
-    /// Due each so many seconds, for the first time so many from now; stopped where they aren't above 0.
+    /// Sets the timer to fire every `seconds` from now on; it stops if that isn't above 0.
     pub fn set(&mut self, seconds: i32, clock: u64)
         requires { clock ≤ latest_clock }
         ensures { timing_of self.new ≡ timing_set seconds clock }
@@ -33,7 +33,7 @@ impl Timer {
         };
     }
 
-    /// Whether the timer runs and is due; if so, it is next due one period from now.
+    /// Whether the timer runs and is due. If so, it is next due one period from now.
     pub fn read(&mut self, clock: u64) -> bool
         requires { clock ≤ latest_clock }
         ensures due { result ≡ is_due clock (timing_of self.old) }

@@ -1,4 +1,4 @@
--- The woven code of a well-formed unit goes back only behind ticks.
+-- The woven code of a well-formed unit goes back only after ticks.
 use Rattle.std.proofs.Common.{◌≡◌, ℕ, List, Option, Some, None, true, option_map, refl, sym, ap, ◌∙◌, subst, slice_get}
 use Rattle.std.proofs.lemmas.Option.{slice_get-map}
 use Rattle.lsl_value.specs.declared.tagged.Value.{Value}
@@ -35,7 +35,7 @@ woven_from bodies f w e = by_body (slice_get bodies f) refl (sym (slice_get-map 
 
 module _ (globals : List Value) (states : List StateCode) (bodies : List Body)
     (ok : IsWellFormedUnit globals states bodies) where
-  -- a point's tick or call stands where it is first met
+  -- a point's tick or call is where it is first met
   pub stands : (f : ℕ) (b : Body) → slice_get bodies f ≡ Some b → (p : ℕ) (pt : Point)
       → slice_get b.points p ≡ Some pt
       → slice_get b.code (place_of p b.code) ≡ Some (point_instr pt.calls p)

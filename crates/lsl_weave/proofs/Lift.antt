@@ -50,7 +50,7 @@ Lifted b (Ends s) d = d ≡ Ends s
 Lifted b (Fails x) d = d ≡ Fails x
 Lifted b Stuck d = d ≡ Stuck
 
--- the first of the instructions that stand for one
+-- the first of the instructions for one
 abbrev pub first : Body → Instr → Instr
 first b (Jump t) = Jump (shift b t)
 first b (JumpIf t) = JumpIf (shift b t)
@@ -72,7 +72,7 @@ entered_same None j g held sl ops = refl
 entered_same (Some fn) j g held sl ops = refl
 
 module _ (b : Body) (bs : List Body) where
-  -- an effect that is no jump is the same
+  -- an effect that isn't a jump is the same
   same_lifted : (i : Instr) (d : Did) → By bs i d → ((t : ℕ) → LeadsTo i t → ⊥) → Lifted b d d
   same_lifted i (Goes sl ops g) by h = refl
   same_lifted i (Jumps t ops) by h = absurd (h t by)
@@ -121,7 +121,7 @@ pub charge_lift : (bs : List Body) (calls : List MachineCall) (g : Kept)
 charge_lift bs [] g = refl
 charge_lift bs (c ∷ rest) g = ap (λ n. used (hold_all n c.operands) c.slots g) (base_lift bs rest)
 
--- the woven code is no shorter, so its fuel is enough
+-- the woven code is at least as long, so its fuel is enough
 width_some : (xs : List Instr) → length xs ≤ offset width xs (length xs)
 width_some [] = omega arith
 width_some (x ∷ xs) = omega (arith, wide x, width_some xs)

@@ -64,7 +64,7 @@ module _ (s : Scope) (b : Body) (long : length b.stacks ≡ length b.code)
       → slice_get (woven_stacks b) (shift b k) ≡ Some (stack_before b k)
   stack_here k i e = first_stack b (woven_stacks b) (shift b k) k i (stacks_laid b k i e)
 
-  -- what plain code goes on to with some kinds, woven code does
+  -- where plain code continues with some kinds, woven code does
   finds_on : (t : ℕ) (ks : List Kind) → finds b t ks ≡ true → finds (woven_of b) (shift b t) ks ≡ true
   finds_on t ks e =
       let stack = shape_is (slice_get b.stacks t) ks e in
@@ -117,7 +117,7 @@ module _ (s : Scope) (b : Body) (long : length b.stacks ≡ length b.code)
       ∙ with_on k i (behind s i ks) here p.0)
       (point_first s b i ks ∙ p.1)
 
-  -- the first instruction that stands for a plain one
+  -- the first instruction for a plain one
   first_fits : (k : ℕ) (i : Instr) → slice_get b.code k ≡ Some i
       → fits_at s (woven_of b) (shift b k) (first b i) ≡ true
   first_fits k i here =
@@ -130,7 +130,7 @@ module _ (s : Scope) (b : Body) (long : length b.stacks ≡ length b.code)
       by_stack (Some None) e = bare_first b i e
       by_stack (Some (Some js)) e = before_on k i (reverse js) here e
 
-  -- the test behind a point
+  -- the test after a point
   test_fits : (k p : ℕ) (callee : Option ℕ) → slice_get b.code k ≡ Some (point_instr callee p)
       → fits_at s (woven_of b) (suc (shift b k)) (TestSave (save_place b p)) ≡ true
   test_fits k p callee here =

@@ -120,7 +120,7 @@ module _ (b : Body) (has : HasPoints b) where
   waiting_length : (pt : Point) → length (waiting_kinds b.slots pt) ≡ waiting b pt
   waiting_length pt = length-reverse (drop (length b.slots) pt.kinds) ∙ length-drop (length b.slots) pt.kinds
 
-  -- the test behind a point stands before the blocks
+  -- the test after a point is before the blocks
   before_blocks : (k p : ℕ) (callee : Option ℕ) → slice_get b.code k ≡ Some (point_instr callee p)
       → shift b k + 1 < saves_from b
   before_blocks k p callee here =

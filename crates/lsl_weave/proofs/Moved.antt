@@ -1,4 +1,4 @@
--- A machine that is saved at a tick and restored goes on as it would have gone on.
+-- A machine that is saved at a tick and restored continues as it would have.
 use Rattle.std.proofs.Common.{◌≡◌, ℕ, ◌+◌, List, [], ◌∷◌, Some, refl, sym, ap, ◌∙◌}
 use Rattle.lsl_code.specs.declared.frames.Frame.{Frame}
 use Rattle.lsl_code.specs.Bodies.{Body}

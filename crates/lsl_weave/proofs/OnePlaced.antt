@@ -1,4 +1,4 @@
--- Each point of a well-formed unit stands at one place.
+-- Each point of a well-formed unit is at one place.
 use Rattle.std.proofs.Common.{◌≡◌, ℕ, zero, suc, ◌≤◌, List, [], ◌∷◌, Option, Some, None, Bool, true, false, cond, refl, sym, ap, ◌∙◌, arith, slice_get}
 use Rattle.std.specs.Prelude.{nat_eq}
 use Rattle.lsl_value.specs.declared.tagged.Value.{Value}
@@ -82,7 +82,7 @@ one_placed globals states bodies ok f b found k p callee here =
     let once = (well_formed globals states bodies ok f b found).once p m.point m.mapped in
     one_place b.code p k callee once here
 
--- calls that wait for one another stand behind calls
+-- calls that wait for one another are after calls
 chained_behind : (bodies : List Body) (h g : ℕ) (outer : List MachineCall) → AreChained bodies h g outer
     → AreBehindCalls bodies outer
 chained_behind bodies h g [] chain = tt

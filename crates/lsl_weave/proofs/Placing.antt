@@ -1,4 +1,4 @@
--- Where the instructions of woven code stand.
+-- Where the instructions of woven code are.
 use Rattle.std.proofs.Common.{◌≡◌, ℕ, zero, suc, ◌+◌, ◌≤◌, List, [], ◌∷◌, ◌++◌, length, Option, Some, None, refl, ap, subst, arith, append_assoc, length-append}
 use Rattle.std.specs.Prelude.{slice_get}
 use Rattle.std.proofs.lemmas.Option.{slice_get_within}
@@ -9,7 +9,7 @@ use Rattle.lsl_code.specs.Bodies.{Body}
 use Rattle.lsl_weave.specs.Layout.{offset, width, shift, waiting, save_width, back_width, saves_from, backs_from, save_place, back_place, main, keep_tops, keep_slots, save_block, back_slots, back_tops, back_end, back_block, table, woven_code}
 use Rattle.lsl_code.specs.ModeStacks.{flat}
 
--- these instructions stand at this place
+-- these instructions are at this place
 abbrev pub HasAt : {B : Type 0} → List B → ℕ → List B → Type 0
 HasAt code k [] = Unit {0}
 HasAt code k (i ∷ is) = (slice_get code k ≡ Some i) × HasAt code (k + 1) is
@@ -38,7 +38,7 @@ has_all (i ∷ is) pre =
     let rest' = subst (λ l. HasAt l (length (pre ++ i ∷ [])) is) (append_assoc pre (i ∷ []) is) rest in
     (get_middle pre i is, subst (λ m. HasAt (pre ++ i ∷ is) m is) n rest')
 
--- the block of the k-th element stands behind those before it
+-- the block of the k-th element is after those before it
 pub flat_at : {A B : Type 0} (code : List B) (g : ℕ → A → List B) (w : A → ℕ)
     → ((i : ℕ) (x : A) → length (g i x) ≡ w x) → (s i : ℕ) (xs : List A) (k : ℕ) (x : A)
     → HasAt code s (flat g i xs) → slice_get xs k ≡ Some x → HasAt code (s + offset w xs k) (g (i + k) x)
@@ -133,7 +133,7 @@ pub record Laid (b : Body) (code : List Instr) : Type 0 where
 main_any : (b : Body) (i : Instr) (j k : ℕ) → j ≡ k → main b j i ≡ main b k i
 main_any b i j k e = ap (λ n. main b n i) e
 
--- what stands behind, at a place that has another name
+-- what follows, at a place that has another name
 pub has_behind : {B : Type 0} (code : List B) (k n : ℕ) (a b : List B) → k + length a ≡ n
     → HasAt code k (a ++ b) → HasAt code n b
 has_behind code k n a b e h = subst (λ m. HasAt code m b) e (has_back code k a b h)

@@ -1,4 +1,4 @@
--- What weaving asks of a plain function's points, and that a well-formed unit's functions have it.
+-- What weaving requires of a plain function's points, and that a well-formed unit's functions have it.
 use Rattle.std.proofs.Common.{◌≡◌, ℕ, List, [], ◌∷◌, ◌++◌, length, take, reverse, Option, Some, None, true, refl, sym, ap, ◌∙◌, slice_get}
 use Rattle.lsl_value.specs.declared.tagged.Kind.{Kind}
 use Rattle.lsl_value.specs.declared.tagged.Value.{Value}

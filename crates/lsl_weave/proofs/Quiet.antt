@@ -57,7 +57,7 @@ quiet_flat g h i [] s = refl
 quiet_flat g h i (x ∷ xs) s = all_append no_point s (g i x) (flat g (suc i) xs) (h i x s)
     (quiet_flat g h (suc i) xs (s + length (g i x)))
 
--- all that stands behind the running part
+-- all that follows the running part
 abbrev pub blocks : Body → List Instr
 blocks b =
     flat (save_block b) 0 b.points ++ (Unpack ∷ Branch ∷ (flat (table b) 0 b.points ++ flat (back_block b) 0

@@ -1,4 +1,4 @@
--- A frame that is restored stands at its point, with values of its kinds.
+-- A frame that is restored is at its point, with values of its kinds.
 use Rattle.std.proofs.Common.{◌≡◌, ℕ, zero, suc, ◌≤◌, List, [], ◌∷◌, Option, Some, None, refl, sym, ap, ◌∙◌, subst, arith}
 use Rattle.std.specs.Prelude.{slice_get, option_map, option_and_then}
 use Rattle.lsl_value.specs.declared.tagged.Value.{Value}

@@ -56,14 +56,14 @@ module _ (globals : List Value) (states : List StateCode) (bodies : List Body)
         waits_told w p (slice_get w.points p) None ks refl
         (place_told own w k (Tick p) ks (fit_at k (Tick p) here) stands).3
 
-    -- at a tick: the kinds that stand before it
+    -- at a tick: the kinds before it
     tick_told : (k p : ℕ) → slice_get w.code k ≡ Some (Tick p) → (ks : List Kind) × StandsWith w k ks
         × HasWaiting w p None ks
     tick_told k p here =
         let stack = kinds_there own w k (Tick p) (slice_get w.stacks k) refl refl (fit_at k (Tick p) here) in
         (stack.0, stack.1, tick_waits k p stack.0 here stack.1)
 
-    -- at a call: the operands that wait, and with the result those behind it
+    -- at a call: the operands that wait, and with the result those after it
     call_told : (k p g : ℕ) (callee : Body) → slice_get w.code k ≡ Some (Call g p)
         → slice_get bodies g ≡ Some callee → (ks : List Kind) × HasWaiting w p (Some g) ks
         × StandsWith w (k + 1) (pushed callee.result ks)

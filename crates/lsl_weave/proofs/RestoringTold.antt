@@ -1,4 +1,4 @@
--- While a woven unit's machine restores, the operands have the kinds that its functions tell.
+-- While a woven unit's machine restores, the operands have the kinds that its functions declare.
 use Rattle.std.proofs.Common.{◌≡◌, ℕ, zero, suc, ◌+◌, List, [], ◌∷◌, ◌++◌, length, map, reverse, ◌⊎◌, inl, inr, ⊎_elim, Option, Some, None, Bool, true, false, option_map, refl, sym, ap, ◌∙◌, subst, arith, slice_get, length-append}
 use Rattle.std.specs.Prelude.{option_and_then}
 use Rattle.std.proofs.lemmas.List.{append_cancel_left}
@@ -85,7 +85,7 @@ calls_last callee (x ∷ left) fr = calls_last (Some x.function) left fr
 abbrev Stops : Type 0
 Stops = ℕ → ℕ → List Kind → List Kind → List Stop
 
--- the function tells the kinds at each stop from here on: of the frame in hand, or of the outermost that is left
+-- the function declares the kinds at each stop from here on: of the current frame, or of the outermost that is left
 abbrev IsTold : List (Option (List Kind)) → Stops → List Frame → MachineCall → ℕ → List Value → List Frame → Type 0
 IsTold all go left c point hand sack =
     ((sack ≡ left) × (are_there all (go point c.place (kinds_of hand) (kinds_of c.operands)) ≡ true))
@@ -115,7 +115,7 @@ module _ (all : List (Option (List Kind))) (go : Stops) (code : List Instr)
   top_told c point [] h = tt
   top_told c point (v ∷ rest) h = inl (refl, h)
 
-  -- a frame is in hand
+  -- a frame is current
   opened_told : (c : MachineCall) (point : ℕ) (hand : List Value) (o : Option Instr)
       → backs_at code way_on true point c.place o ≡ Some way
       → are_there all (restores_on (go point) point c.place (kinds_of hand) (kinds_of c.operands) o) ≡ true
@@ -153,7 +153,7 @@ module _ (globals : List Value) (states : List StateCode) (functions : List Wove
       → are_there (restoring_of code) (restoring_stops code.points code.code) ≡ true
   all_told f code e = (both_true _ _ (all_at tells_modes functions f code modes e)).1
 
-  -- the call is on its way, and stops where its function tells; the frames that are left are those of the calls that
+  -- the call is on its way, and stops where its function declares; the frames that are left are those of the calls that
   -- it waits for
   record IsRestoring (c : MachineCall) (point : ℕ) (hand : List Value) (sack : List Frame) : Type 0 where
     code : WovenCode
@@ -312,7 +312,7 @@ module _ (globals : List Value) (states : List StateCode) (functions : List Wove
         (back_goes_on bodies (woven_body code) n left (last_callee None left) c point hand sack at on) told_behind
         s step
 
-  -- each step goes on so
+  -- each step continues this way
   by_length : (c : MachineCall) (point : ℕ) (hand : List Value) (sack : List Frame) (outer : List MachineCall)
       (code : WovenCode) → slice_get functions c.function ≡ Some code → (left : List Frame)
       → AreLeft (points_of bodies) None left → (steps : ℕ)
@@ -355,7 +355,7 @@ module _ (globals : List Value) (states : List StateCode) (functions : List Wove
   first_told code left c point hand sack n (inr t) =
       (both_true (has_kinds (slice_get (restoring_of code) c.place) (kinds_of c.operands)) _ t.2).0
 
-  -- the kinds are those that are told
+  -- the kinds are those that are declared
   is_told : (code : WovenCode) (left : List Frame) (c : MachineCall) (point : ℕ) (hand : List Value)
       (sack : List Frame) (steps : ℕ)
       → OnBack (woven_body code) steps left (last_callee None left) c point hand sack

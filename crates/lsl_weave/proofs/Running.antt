@@ -55,7 +55,7 @@ block_still code s (suc m) n p h = (KeepTop, h.0, ((λ bs g held sl ops. refl), 
 block_still code s zero (suc n) p h = (KeepSlot n, h.0, ((λ bs g held sl ops. refl), (λ q next. refl), (λ lines. refl)))
 block_still code s zero zero p h = (Seal p, h.0, ((λ bs g held sl ops. refl), (λ q next. refl), (λ lines. refl)))
 
--- behind the plain code's end stands nothing that runs
+-- nothing that runs follows the plain code's end
 end_still : (b : Body) → StillAt (woven_code b) (saves_from b)
 end_still b = by_points b.points refl
   where
@@ -79,11 +79,11 @@ past_still b k e =
     (sym (offset_past width b.code k (none_past b.code k e))) in
     subst (StillAt (woven_code b)) z (end_still b)
 
--- the woven machine comes to where the plain one has come, or is one test before it
+-- the woven machine reaches the plain one's place, or is one test before it
 abbrev pub Reaches : List Body → Machine → Machine → Type 0
 Reaches bs m u = (u ≡ lift_machine bs m) ⊎ (step (all_woven bs) u ≡ On (lift_machine bs m))
 
--- what comes of the woven step is what comes of the plain one
+-- the result of the woven step is that of the plain one
 abbrev pub Alike : List Body → Next → Next → Type 0
 Alike bs (On m) y = (u : Machine) × (y ≡ On u) × OuterAreBehind bs m.calls × Reaches bs m u
 Alike bs (Pauses (Passing m)) y =
@@ -124,7 +124,7 @@ module _ (bs : List Body) (g : Kept) (a : List Reply) where
       woven_does bs g a f 0 ns [] low b (TestBack (backs_from b)) found (laid b).head
       ∙ ap (λ n. On (put g a f n ns [] low)) z ∙ ap On (top_is bs g a f 0 ns [] rest b found)
 
-  -- the test behind a point
+  -- the test after a point
   test_step : (f k t : ℕ) (sl ops : List Value) (rest : List MachineCall) (b : Body) → slice_get bs f ≡ Some b
       → slice_get (woven_code b) (shift b k + 1) ≡ Some (TestSave t) → shift b (k + 1) ≡ shift b k + 2
       → step (all_woven bs) (put g a f (shift b k + 1) sl ops (map (lift_waiting bs) rest))
@@ -362,7 +362,7 @@ asked bs zero m id args = refl
 asked bs (suc t) m id args = refl
 
 module _ (bs : List Body) (forward : Forward bs) where
-  -- behind a tick both come to the same end
+  -- after a tick both have the same end
   abbrev TickAlike : ℕ → Type 0
   TickAlike t = (m next u : Machine) → OuterAreBehind bs next.calls
       → step (all_woven bs) u ≡ On (lift_machine bs next) → 2 * left bs next < fuel (all_woven bs) u

@@ -102,7 +102,7 @@ module _ (ws : List Body) (f : ℕ) (w : Body) (found : slice_get ws f ≡ Some 
       (saving (call_at f b.0 slots [] ∷ rest)
       (take (length slots) slots ++ reverse_aux ops []) sack) _ b.1 st')
 
--- directly behind a point stands the test that leads to its block
+-- directly after a point is the test that leads to its block
 test_behind : (b : Body) (code : List Instr) (s k p : ℕ) (callee : Option ℕ)
     → HasAt code s (main b k (point_instr callee p))
     → slice_get code (s + 1) ≡ Some (TestSave (save_place b p))
@@ -120,7 +120,7 @@ frame_is f p values fr a b c =
     ∙ ap (λ x. frame_of fr.function fr.point x) (sym c)
 
 module _ (bs : List Body) where
-  -- how many operands wait is told by the point's map
+  -- the point's map gives the number of operands that wait
   pub waits_for : (c : MachineCall) (k : ℕ) (callee : Option ℕ) (fr : Frame) (st : Stands bs c k callee fr)
       → waiting st.body st.point ≡ length c.operands
   waits_for c k callee fr st =

@@ -30,7 +30,7 @@ pub record OnSaveWay (w : Body) (p : ℕ) (kinds : List Kind) (n : ℕ) (c : Mac
   pub slots : kinds_of c.slots ≡ w.slots
   pub kinds_are : kept w.slots way.order (kinds_of c.operands) (kinds_of hand) ≡ Some kinds
 
--- the act goes on along the way, or closes the frame at its end
+-- the act continues along the way, or closes the frame at its end
 abbrev pub SaveGoesOn : Body → ℕ → List Kind → ℕ → ℕ → SaveAct → Type 0
 SaveGoesOn w p kinds n f (Keeps c hand) = (c.function ≡ f) × OnSaveWay w p kinds n c hand
 SaveGoesOn w p kinds n f (Seals frame) = (frame.function ≡ f) × (frame.point ≡ p)
@@ -91,7 +91,7 @@ save_way w k p callee point ok here mapped =
     let at_point = subst (λ o. saves_point w k p o ≡ true) mapped at_k in
     way_of w k p point (keeps w.code (length w.code) (k + 1)) refl (both_true _ _ at_point).1
 
--- the way begins behind the point
+-- the way begins after the point
 pub save_begins : (bodies : List Body) (c : MachineCall) (k : ℕ) (callee : Option ℕ) (p : ℕ)
     (fit : IsAt bodies c k callee p) (x : ℕ) → x ≡ k + 1 → is_kept fit.body ≡ true
     → OnSaveWay fit.body p fit.point.kinds (length fit.body.code) (at_place c x c.operands) []
@@ -106,7 +106,7 @@ save_begins bodies c k callee p fit x e ok =
       kinds_are = ap (λ l. kept w.slots s.way.order l []) fit.operands ∙ s.kinds_are;
     }
 
--- where a way is told behind a keep
+-- the way after a keep
 way_behind : (k : Keep) (o : Option SaveWay) (way : SaveWay) → option_map (keeping k) o ≡ Some way
     → (rest : SaveWay) × (o ≡ Some rest) × (way.order ≡ k ∷ rest.order) × (way.point ≡ rest.point)
 way_behind k None way e = absurd cc
@@ -114,7 +114,7 @@ way_behind k (Some rest) way e =
     let is : keeping k rest ≡ way = cc in
     (rest, refl, ap (λ w. w.order) (sym is), ap (λ w. w.point) (sym is))
 
--- behind a jump forward the way is what it is from there
+-- after a jump forward the way is what it is from there
 pub onward_is : {A : Type 0} (place to : ℕ) (way : Option A) (a : A) → onward place to way ≡ Some a
     → way ≡ Some a
 onward_is place to way a e = by_test (nat_lt place to) e
@@ -215,12 +215,12 @@ module _ (w : Body) (p : ℕ) (kinds : List Kind) (n : ℕ) where
   on_instr c hand st (Some (Seal q)) e = seals c hand q st e
   on_instr c hand st _ e = absurd (none-some st.way e)
 
-  -- each instruction of the way is there, and leads on along it
+  -- each instruction of the way is there, and continues along it
   pub save_goes_on : (c : MachineCall) (hand : List Value) → OnSaveWay w p kinds (suc n) c hand
       → SaveGoesOn w p kinds n c.function (save_act (slice_get w.code c.place) c hand)
   save_goes_on c hand st = on_instr c hand st (slice_get w.code c.place) st.is_way
 
--- no instruction is no way
+-- without an instruction there is no way
 pub save_not_over : (w : Body) (p : ℕ) (kinds : List Kind) (c : MachineCall) (hand : List Value)
     → OnSaveWay w p kinds 0 c hand → ⊥
 save_not_over w p kinds c hand st = none-some st.way st.is_way

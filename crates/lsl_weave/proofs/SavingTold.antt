@@ -1,4 +1,4 @@
--- While a woven unit's machine saves, the operands have the kinds that its functions tell.
+-- While a woven unit's machine saves, the operands have the kinds that its functions declare.
 use Rattle.std.proofs.Common.{◌≡◌, ℕ, zero, suc, ◌+◌, List, [], ◌∷◌, ◌++◌, length, drop, map, reverse, Option, Some, None, true, option_map, refl, sym, ap, ◌∙◌, subst, arith, slice_get}
 use Rattle.std.specs.Prelude.{option_and_then}
 use Rattle.std.proofs.lemmas.Option.{slice_get-map, none-some}
@@ -49,7 +49,7 @@ there_at all g i (y ∷ xs) (suc k) x h e =
     subst (λ n. are_there all (g n x) ≡ true) z
     (there_at all g (suc i) xs k x (there_front all (g i y) (flat g (suc i) xs) h).1 e)
 
--- a call that goes on saving goes on to its next stop
+-- a call that continues to save continues to its next stop
 act_stop : (all : List (Option (List Kind))) (go : ℕ → List Kind → List Stop) (o : Option Instr) (c d : MachineCall)
     (hand hand' : List Value) → save_act o c hand ≡ Keeps d hand'
     → are_there all (saves_on go c.place (kinds_of c.operands) o) ≡ true
@@ -104,7 +104,7 @@ module _ (globals : List Value) (states : List StateCode) (functions : List Wove
   all_told f code e =
       (both_true _ _ (all_at tells_modes functions f code modes e)).0
 
-  -- the call is on its way, and stops where its function tells
+  -- the call is on its way, and stops where its function declares
   record IsSaving (c : MachineCall) (hand : List Value) : Type 0 where
     code : WovenCode
     found : slice_get functions c.function ≡ Some code

@@ -35,7 +35,7 @@ from_zero : (k : ℕ) → 0 + k ≡ k
 from_zero k = omega arith
 
 module _ (b : Body) where
-  -- the blocks stand behind the code that runs
+  -- the blocks follow the code that runs
   blocks_behind : saves_from b ≤ length (woven_code b)
   blocks_behind =
       omega (
@@ -86,7 +86,7 @@ first_stack b stacks s k (Tick p) h = h.0
 first_stack b stacks s k (Call f p) h = h.0
 first_stack b stacks s k _ h = h.0
 
--- before the test behind a point are those of the next plain instruction
+-- before the test after a point are those of the next plain instruction
 pub second_stack : (b : Body) (stacks : List (Option (List Kind))) (s k p : ℕ) (callee : Option ℕ)
     → HasAt stacks s (main_stacks b k (point_instr callee p))
     → slice_get stacks (s + 1) ≡ Some (stack_before b (k + 1))

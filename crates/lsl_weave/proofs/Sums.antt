@@ -67,7 +67,7 @@ looks start w xs table place r t inside past =
     omega arith)
     (cases_lt place (length table))
 
--- the same of a table and a place that have other names
+-- the same for a table and a place that have other names
 pub looks_at : {A : Type 0} (start : ℕ) (w : A → ℕ) (xs : List A) (table seen : List ℕ) (place at r : ℕ)
     → IsTable start w xs table → seen ≡ table → at ≡ place → (at < length seen → slice_get seen at ≡ Some r)
     → (length seen ≤ at → slice_get seen (length seen - 1) ≡ Some r) → r ≡ start + offset w xs place

@@ -1,4 +1,4 @@
--- What the test of running code tells of a point: the kinds of the operands that wait at it.
+-- What the test of running code says of a point: the kinds of the operands that wait at it.
 use Rattle.std.proofs.Common.{◌≡◌, ℕ, List, ◌++◌, length, drop, reverse, Option, Some, None, true, false, refl, sym, ap, ◌∙◌, slice_get}
 use Rattle.std.proofs.Math.Seq.{drop-append_seam}
 use Rattle.std.proofs.lemmas.List.{reverse-reverse}

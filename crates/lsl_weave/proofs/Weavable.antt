@@ -1,4 +1,4 @@
--- Plain code whose points stand at their instructions.
+-- Plain code with points at their instructions.
 use Rattle.std.proofs.Common.{◌≡◌, ℕ, Some, true, slice_get}
 use Rattle.lsl_code.specs.declared.functions.Point.{Point}
 use Rattle.lsl_code.specs.declared.instructions.Instr.{Instr}

@@ -42,7 +42,7 @@ points_same bodies =
     ∙ body_points (slice_get bodies f) p) i
 
 module _ (bodies : List Body) where
-  -- a call at a point stands at that point in woven code
+  -- a call at a point is at that point in woven code
   stands_woven : (c : MachineCall) (k : ℕ) (callee : Option ℕ) (frame : Frame) (st : Stands bodies c k callee frame)
       (x place : ℕ) → x ≡ shift st.body k
       → Stands (all_woven bodies) (at_place c place c.operands) x callee frame

@@ -18,7 +18,7 @@ abbrev empties : ℕ → List (Option (List Kind))
 empties zero = []
 empties (suc n) = Some [] ∷ empties n
 
--- a function with three slots and a tick, whose first n instructions run, with no operands
+-- a function with three slots and a tick; its first n instructions run, with no operands
 abbrev function_of : ℕ → List Instr → Body
 function_of n code = record {
   params = [];
@@ -34,13 +34,13 @@ function_of n code = record {
 abbrev passes : ℕ → List Instr → Bool
 passes n code = is_woven [] states (function_of n code ∷ [])
 
--- kept so, and put back in order
+-- kept this way, and put back in order
 abbrev saving_so : List Instr → List Instr
 saving_so keeps =
     TestBack 8 ∷ Tick 0 ∷ TestSave 4 ∷ Return ∷ (keeps ++ (Seal 0 ∷ Unpack ∷ Branch ∷ Jump 11
     ∷ BackSlot 0 ∷ BackSlot 1 ∷ BackSlot 2 ∷ Awake ∷ Jump 1 ∷ []))
 
--- put back so, with a call that then stands at this place
+-- put back this way, with a call at this place then
 abbrev restoring_so : ℕ → List Instr → List Instr
 restoring_so home puts =
     TestBack 8 ∷ Tick 0 ∷ TestSave 4 ∷ Return ∷ KeepSlot 2 ∷ KeepSlot 1 ∷ KeepSlot 0 ∷ Seal 0 ∷ Unpack ∷ Branch
@@ -76,7 +76,7 @@ past_the_tick = refl
 abbrev put_in_order : List Instr
 put_in_order = Unpack ∷ Branch ∷ Jump 12 ∷ BackSlot 0 ∷ BackSlot 1 ∷ BackSlot 2 ∷ Awake ∷ Jump 1 ∷ []
 
--- the test stands directly behind the tick
+-- the test is directly after the tick
 behind_a_jump : passes 5 (TestBack 9 ∷ Tick 0 ∷ Jump 3 ∷ TestSave 5 ∷ Return
     ∷ KeepSlot 2 ∷ KeepSlot 1 ∷ KeepSlot 0 ∷ Seal 0 ∷ put_in_order) ≡ false
 behind_a_jump = refl

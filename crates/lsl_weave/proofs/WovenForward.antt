@@ -90,7 +90,7 @@ module _ (b : Body) (plain : (k : ℕ) (i : Instr) → slice_get b.code k ≡ So
   there : (u : ℕ) (i : Instr) → slice_get b.code u ≡ Some i → slice_get W (shift b u) ≡ Some (first b i)
   there u i e = first_at b W (shift b u) u i ((laid b).mains u i e)
 
-  -- no jump backward stands in woven code where none stood
+  -- woven code has no jump backward where the plain code had none
   not_high : (u : ℕ) (o : Option Instr) → slice_get b.code u ≡ o → high_in b.code u ≡ false
       → high_in W (shift b u) ≡ false
   not_high u None e h =
@@ -126,7 +126,7 @@ module _ (b : Body) (plain : (k : ℕ) (i : Instr) → slice_get b.code k ≡ So
   back_low q None next h = refl
   back_low q (Some i) next h = h
 
-  -- behind a test stands a jump backward, or neither that nor a test before one
+  -- after a test is a jump backward, or neither that nor a test before one
   test_ok : (u y : ℕ) (o : Option Instr) → y ≡ shift b u → slice_get b.code u ≡ o
       → cond (is_back y (slice_get W y)) true (cond (high_in W y) false true) ≡ true
   test_ok u y None z e =
@@ -161,7 +161,7 @@ module _ (b : Body) (plain : (k : ℕ) (i : Instr) → slice_get b.code k ≡ So
         → cond (high_in W (shift b t)) false true ≡ true
     jump_low t h = lands_true _ (not_high t (slice_get b.code t) refl (false_of (high_in b.code t) h))
 
-    -- behind the test behind a call
+    -- after the test after a call
     enter_low : (k f p : ℕ) → slice_get b.code k ≡ Some (Call f p)
         → is_back (shift b k + 1 + 1) (slice_get W (shift b k + 1 + 1)) ≡ false
     enter_low k f p e =
