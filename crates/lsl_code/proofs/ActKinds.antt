@@ -33,7 +33,7 @@ use Rattle.lsl_code.proofs.ValueKinds.{some_is, pure_kind, binary_kind, cast_kin
 use Rattle.lsl_code.proofs.Taking.{map_is, taken, row_taken, arguments_kinds, rest_kinds, only_is, with_is, map_of, less_is, none_is}
 
 module _ (bodies : List Body) (s : Scope) where
-  -- what is done fits the kinds behind the instruction, where these operands stood before it
+  -- what is done fits the kinds after the instruction, if these operands were before it
   abbrev pub DidFit : List Value → Did → List Kind → Type 0
   DidFit ops (Goes slots operands kept) js =
       (kinds_of kept.globals ≡ s.globals) × (kinds_of slots ≡ s.slots) × (kinds_of operands ≡ js)

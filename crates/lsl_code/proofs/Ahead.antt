@@ -1,4 +1,4 @@
--- No step between two ticks lets the host calls grow that are ahead, and behind each that is asked are fewer.
+-- No step between two ticks adds host calls ahead, and after each one that is made are fewer.
 use Rattle.std.proofs.Common.{◌≡◌, ℕ, zero, suc, ◌+◌, ◌<◌, ◌≤◌, List, [], ◌∷◌, Bool, true, false, cond, Option, None, Some, refl, sym, subst, arith, slice_get}
 use Rattle.lsl_value.specs.declared.names.BuiltinId.{BuiltinId}
 use Rattle.lsl_value.specs.declared.tagged.Value.{Value}
@@ -20,7 +20,7 @@ use Rattle.lsl_code.proofs.Asked.{Due, by_due}
 use Rattle.lsl_code.proofs.Ranks.{left}
 use Rattle.lsl_code.proofs.Running.{Falls, step_falls, run_law}
 
--- where a step goes on in the same stretch, at most k are ahead; where it asks, k are more than these behind it
+-- where a step continues in the same stretch, at most k are ahead; where it asks, k are more than these after it
 abbrev pub Ahead : List Body → ℕ → ℕ → Next → Type 0
 Ahead bodies k behind (On m) = due_in bodies m.calls ≤ k
 Ahead bodies k behind (Pauses (Waiting id args)) = suc behind ≤ k
@@ -94,7 +94,7 @@ module _ (bodies : List Body) (forward : Forward bodies) where
   step_ahead g a [] = tt
   step_ahead g a (c ∷ outer) = fetched_ahead g a c outer (instruction_at bodies c.function c.place) refl
 
-  -- the machine that asks has at most k ahead, and fewer behind what it asks
+  -- the machine that asks has at most k ahead, and fewer after what it asks
   abbrev AsksWithin : ℕ → Halt → Type 0
   AsksWithin k (AskAt id args at t) = (due_in bodies at.calls ≤ k) × (suc (due_behind bodies at.calls) ≤ k)
   AsksWithin k (Over e) = Unit {0}
@@ -121,7 +121,7 @@ module _ (bodies : List Body) (forward : Forward bodies) where
       (on_within k m (step bodies m) le (step_falls bodies forward m) (step_ahead m.kept m.answers m.calls)
       (λ next lt le'. within n k next (omega arith) le'))
 
-  -- where a run asks before its next tick, no more are ahead than where it began, and behind what it asks fewer
+  -- where a run asks before its next tick, at most as many are ahead as where it began, and fewer after what it asks
   pub asks_within : (m at : Machine) (id : BuiltinId) (args : List Value) (t : ℕ) → run bodies 0 m ≡ AskAt id args at t
       → (due_in bodies at.calls ≤ due_in bodies m.calls) × (suc (due_behind bodies at.calls) ≤ due_in bodies m.calls)
   asks_within m at id args t e =

@@ -1,4 +1,4 @@
--- One instruction asks at most as often as a call still can.
+-- One instruction makes at most as many host calls as a call still can.
 use Rattle.std.proofs.Common.{◌≡◌, ℕ, suc, ◌+◌, ◌≤◌, List, true, false, nat_lt, Option, None, Some, refl, sym, ap, ◌∙◌, subst, arith, drop, slice_get}
 use Rattle.lsl_code.specs.declared.instructions.Instr.{Instr}
 use Rattle.lsl_code.specs.declared.instructions.Instr.TheVariants.{Jump, JumpIf, JumpIfNot, Host, Tick, Call, TestSave, KeepSlot, KeepTop, Seal, TestBack, Unpack, BackSlot, BackTop, Branch, Again, Awake}
@@ -10,7 +10,7 @@ use Rattle.lsl_code.proofs.Acts.{is_straight, LeadsTo, is_host, By}
 use Rattle.lsl_code.specs.Asking.{code_of, due_jump, due_test, due_of, due_at}
 use Rattle.lsl_code.proofs.Due.{hosts_ask, due_flat, due_go, due_past, due_open, past_test}
 
--- where a call's act goes on in the same stretch, at most k can still be asked
+-- where a call's act continues in the same stretch, at most k can still be asked
 abbrev pub Due : List Body → ℕ → ℕ → ℕ → Did → Type 0
 Due bodies f pc k (Goes sl ops g) = due_at bodies f (pc + 1) ≤ k
 Due bodies f pc k (Jumps t ops) = due_at bodies f t ≤ k

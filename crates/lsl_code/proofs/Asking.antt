@@ -1,4 +1,4 @@
--- Between two ticks each active call executes each of its instructions at most once, so a run asks only so often.
+-- Between two ticks each active call executes each of its instructions at most once, so a run makes few host calls.
 use Rattle.std.proofs.Common.{◌≡◌, ℕ, zero, suc, ◌+◌, ◌*◌, ◌<◌, ◌≤◌, List, [], ◌∷◌, ◌++◌, Bool, true, false, cond, Option, None, Some, refl, sym, ap, ◌∙◌, subst, arith, length, length-append, slice_get}
 use Rattle.std.proofs.Math.Nat.{suc-mul}
 use Rattle.lsl_value.specs.declared.names.BuiltinId.{BuiltinId}
@@ -77,7 +77,7 @@ module _ (bodies : List Body) (forward : Forward bodies) where
   on_keeps m (Pauses (Waiting id args)) falls keeps go = absurd keeps
   on_keeps m (Halts e) falls keeps go = tt
 
-  -- with enough answers a run does not ask before its next tick
+  -- with enough answers a run doesn't ask before its next tick
   no_ask : (n : ℕ) (m : Machine) → left bodies m ≤ n → due_in bodies m.calls ≤ length m.answers
       → NoAsk (run bodies 0 m)
   no_ask zero m le all =
@@ -89,7 +89,7 @@ module _ (bodies : List Body) (forward : Forward bodies) where
       (on_keeps m (step bodies m) (step_falls bodies forward m) (step_keeps m.kept m.answers m.calls all)
       (λ next lt keeps. no_ask n next (omega arith) keeps))
 
-  -- where a run is cut, the machine stands at a tick, behind which few calls are active
+  -- where a run is cut, the machine is at a tick, after which few calls are active
   abbrev CutOk : Halt → Type 0
   CutOk (CutAt m) = (next : Machine) × (step bodies m ≡ Pauses (Passing next)) × Few next
   CutOk _ = Unit {0}

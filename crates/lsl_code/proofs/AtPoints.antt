@@ -1,4 +1,4 @@
--- What a well-formed unit, plain or woven, tells of a point's instruction.
+-- What a well-formed unit, plain or woven, says of a point's instruction.
 use Rattle.std.proofs.Common.{◌≡◌, ℕ, ◌+◌, List, ◌++◌, length, drop, reverse, Option, Some, None, option_map, true, refl, sym, ap, ◌∙◌, subst, slice_get}
 use Rattle.std.proofs.lemmas.List.{reverse-reverse}
 use Rattle.std.proofs.lemmas.Option.{slice_get-map}
@@ -46,7 +46,7 @@ pub pushed_one : (r : Option Kind) (js ks : List Kind) → pushed r js ≡ pushe
 pushed_one None js ks e = e
 pushed_one (Some k) js ks e = cc
 
--- the same place stands with one list of kinds
+-- one place has one list of kinds
 pub one_stack : (w : Body) (k : ℕ) (js ks : List Kind) → StandsWith w k js → StandsWith w k ks → js ≡ ks
 one_stack w k js ks a b =
     let same : reverse js ≡ reverse ks = some_one _ _ (some_one _ _ (sym a ∙ b)) in
@@ -69,7 +69,7 @@ module _ (globals : List Value) (states : List StateCode) (bodies : List Body)
     tick_map k p ks here stands =
         map_told w.points p (slice_get w.points p) None _ refl (well_formed.finds k (Tick p) ks here stands).3
 
-    -- at a call: the operands that wait, and with the result those behind it
+    -- at a call: the operands that wait, and with the result those after it
     pub call_map : (k p g : ℕ) (callee : Body) → slice_get w.code k ≡ Some (Call g p)
         → slice_get bodies g ≡ Some callee
         → (ks : List Kind) × HasMap w.points p (Some g) (w.slots ++ reverse ks)

@@ -27,7 +27,7 @@ use Rattle.lsl_code.proofs.Stood.{map_length}
 use Rattle.lsl_code.proofs.Taking.{kinds_reverse}
 use Rattle.lsl_code.proofs.ValueKinds.{kinds_take, kinds_drop}
 
--- a point's instruction stands somewhere in the code
+-- a point's instruction is somewhere in the code
 abbrev pub Found : List Instr → ℕ → Type 0
 Found code p = (k : ℕ) × (callee : Option ℕ) × (slice_get code k ≡ Some (point_instr callee p))
 
@@ -93,7 +93,7 @@ module _ (bodies : List Body) where
       by_body (Some w) e m =
           record { body = w; found = e; point = at.0; mapped = m; calls = at.2; kinds = at.3 }
 
-  -- the call of a frame whose point's map has these kinds
+  -- the call of a frame at a point with these kinds of its map
   call_stands : (frame : Frame) (callee : Option ℕ) (place k : ℕ) (ks : List Kind) (at : Homed frame callee)
       → slice_get at.body.code k ≡ Some (point_instr callee frame.point)
       → kinds_of frame.slots ≡ at.body.slots ++ reverse ks
@@ -131,7 +131,7 @@ module _ (bodies : List Body) where
 
 module _ (globals : List Value) (states : List StateCode) (bodies : List Body)
     (ok : IsWellFormedUnit globals states bodies) (h : ℕ) where
-  -- where a frame's tick or call stands
+  -- the place of a frame's tick or call
   placed : (frame : Frame) (callee : Option ℕ) (at : Homed bodies frame callee)
       → (k : ℕ) × (slice_get at.body.code k ≡ Some (point_instr callee frame.point))
   placed frame callee at =

@@ -91,7 +91,7 @@ module _ (g : Kept) (held : ℕ) (sl : List Value) where
       elim (is_within g' (used (hold_all held ops) slots g')) as
       (λ b. Small g held sl (cond b (Goes slots ops g') (Fails StackHeap))) [ true ↦ lim | false ↦ tt ]
 
-  -- a limit that was got is no greater than the first one
+  -- a limit that was set is at most the first one
   limit_small : (rest : List Value) (n : ℤ) (charge : ℕ) → g.limit ≤ 65536 → (limit : Option ℕ)
       → granted n charge ≡ limit → Small g held sl (gives_limit limit held sl rest g)
   limit_small rest n charge lim None is = gives_small sl (grant_value None ∷ rest) g lim

@@ -43,6 +43,6 @@ module _ (points : Points) (handler : ℕ) (callee : Option ℕ) (whole : List F
         (from.1 (suc n) (subst (λ l. FirstUnfit points handler callee l (suc n)) (sym e) (fit, h)))),
   )
 
--- what a test that failed tells
+-- what a test that failed says
 pub refuted : (b : Bool) (P : Type 0) → IsTrue b ↔ P → b ≡ false → P → ⊥
 refuted b P iff e p = absurd (cc (iff.1 p, e))

@@ -1,4 +1,4 @@
--- Where a machine goes on finds the kinds behind the instruction.
+-- Where a machine continues finds the kinds after the instruction.
 use Rattle.std.proofs.Common.{◌≡◌, ℕ, zero, suc, ◌+◌, ◌<◌, List, [], ◌∷◌, length, Option, Some, None, true, refl, ◌∙◌, subst, arith, slice_get}
 use Rattle.lsl_value.specs.Values.{kind_of}
 use Rattle.lsl_value.specs.declared.names.BuiltinId.{BuiltinId}

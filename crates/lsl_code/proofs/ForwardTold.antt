@@ -1,4 +1,4 @@
--- What the test that code goes back only behind ticks tells, and which code passes it.
+-- What the test that code goes back only after ticks says, and which code passes it.
 use Rattle.std.proofs.Common.{◌≡◌, ℕ, ◌+◌, List, Bool, true, false, cond, Option, None, Some, refl, sym, ap, ◌∙◌, arith}
 use Rattle.std.specs.Prelude.{slice_get}
 use Rattle.lsl_code.specs.declared.instructions.Instr.{Instr}

@@ -1,4 +1,4 @@
--- A run goes on with further answers.
+-- A run continues with further answers.
 use Rattle.std.proofs.Common.{◌≡◌, ℕ, zero, suc, ◌+◌, ◌<◌, ◌≤◌, List, [], ◌∷◌, ◌++◌, Bool, true, false, cond, Option, None, Some, refl, sym, ap, ◌∙◌, arith}
 use Rattle.lsl_value.specs.declared.names.BuiltinId.{BuiltinId}
 use Rattle.lsl_value.specs.declared.tagged.Value.{Value}
@@ -113,7 +113,7 @@ module _ (bodies : List Body) (b : List Reply) where
             (step_falls bodies forward m) (λ next lt. stretch n next (omega arith))
             ∙ sym (ap (after_answers bodies b) (run_law bodies forward t m))
 
-    -- a run with further answers is the run without them, gone on from where it asked
+    -- a run with further answers is the run without them, continued from where it asked
     pub answers_law : (t : ℕ) (m : Machine)
         → run bodies t (with_answers b m) ≡ after_answers bodies b (run bodies t m)
     answers_law zero m = stretch zero (λ m next. refl) (left bodies m) m (omega arith)

@@ -13,7 +13,7 @@ use Rattle.lsl_code.specs.Machine.{MachineCall, Machine, Faulted, Lost, Passing,
 use Rattle.lsl_code.specs.Asking.{due_at, due_in}
 use Rattle.lsl_code.proofs.Asked.{Due}
 
--- where a step goes on in the same stretch, the answers are enough for what can be asked
+-- where a step continues in the same stretch, the answers are enough for what can be asked
 abbrev pub Keeps : List Body → Next → Type 0
 Keeps bodies (On m) = due_in bodies m.calls ≤ length m.answers
 Keeps bodies (Pauses (Passing m)) = Unit {0}

@@ -14,7 +14,7 @@ behind xs i d within =
 same_rest : (v : Value) (vs : List Value) (k : Kind) (ks : List Kind) → kinds_of (v ∷ vs) ≡ k ∷ ks → kinds_of vs ≡ ks
 same_rest v vs k ks e = cc
 
--- one kind is the same: all are from here on exactly where they are behind it
+-- one kind is the same: all are from here on exactly where they are after it
 pub kinds_on : (vs : List Value) (ks : List Kind) (i : ℕ) (v : Value) (d : Kind) (All : Type 0) → length vs ≡ length ks
     → i < length vs → v ≡ get_or vs i v → kind_of v ≡ get_or ks i d
     → (kinds_of (drop i vs) ≡ drop i ks) ↔ All → (kinds_of (drop (i + 1) vs) ≡ drop (i + 1) ks) ↔ All

@@ -13,7 +13,7 @@ lines_long unit f code is =
     let told = woven_tells unit.globals unit.states (map woven_body unit.functions) unit.woven in
     (told.functions f (woven_body code) (slice_get-map woven_body unit.functions f ∙ ap (option_map woven_body) is)).lines
 
--- what stands at a place is the function of this number
+-- what is at a place is the function of this number
 pub function_is : (functions list : List WovenCode) (f place : ℕ) (x code : WovenCode) → list ≡ functions → place ≡ f
     → x ≡ get_or list place x → slice_get functions f ≡ Some code → x ≡ code
 function_is functions list f place x code same at is there =

@@ -1,4 +1,4 @@
--- A draft that runs, and whose jumps lead where nothing waits, gives a function that is well formed.
+-- A draft that runs, with jumps to where nothing waits, gives a function that is well formed.
 use Rattle.std.proofs.Common.{◌≡◌, ℕ, suc, ◌+◌, ◌<◌, List, [], ◌∷◌, ◌++◌, length, reverse, Option, Some, None, option_map, Bool, true, refl, sym, ap, ◌∙◌, subst, arith, slice_get}
 use Rattle.std.specs.Prelude.{not}
 use Rattle.std.proofs.lemmas.List.{reverse-reverse}
@@ -135,7 +135,7 @@ module _ (names : Names) (slots : List Kind) (result : Option Kind) (name : List
       some_code [] e = absurd cc
       some_code (i ∷ d) e = omega arith
 
-      -- a draft that runs and whose ways are in order gives a function that is well formed
+      -- a draft that runs, with ways in order, gives a function that is well formed
       pub made : (f : ℕ) → begins_with_tick d ≡ true → length d < 4294967296 → fits_function names f w ≡ true
       made f begins short =
           let len : length w.stacks ≡ length w.code = scan_length s d [] ∙ sym (numbered_length d 0) in

@@ -1,4 +1,4 @@
--- Saving and restoring have one result, and keep what stands beside the calls.
+-- Saving and restoring have one result, and keep what is beside the calls.
 use Rattle.std.proofs.Common.{◌≡◌, ℕ, zero, suc, List, [], Option, Some, None, refl, sym, ap, ◌∙◌, subst}
 use Rattle.std.specs.Prelude.{option_map, option_and_then}
 use Rattle.lsl_code.specs.Machine.{MachineCall, Machine}
@@ -27,7 +27,7 @@ kept_whole : {S : Type 0} (x : Beside) (o : Option S) (v : Whole S) → option_m
 kept_whole x None v e = cc
 kept_whole x (Some s) v e = let same : whole x s ≡ v = cc in sym (ap (λ w. w.beside) same)
 
--- whatever state such a run comes to
+-- whatever state such a run reaches
 pub beside_kept : {S : Type 0} (step : S → Option S) (n : ℕ) (x : Beside) (s : S) (v : Whole S)
     → repeat (step_beside step) n (whole x s) ≡ Some v → v.beside ≡ x
 beside_kept step n x s v e = kept_whole x (repeat step n s) v (sym (runs_beside step n x s) ∙ e)

@@ -1,4 +1,4 @@
--- Saved calls whose values lie in one list.
+-- Saved calls with values in one list.
 use Rattle.std.proofs.Common.{◌≡◌, ◌∙◌, refl, sym, ap, subst, arith, ℕ, suc, ◌+◌, ◌-◌, ◌<◌, ◌≤◌, List, [], ◌∷◌, ◌++◌, length, take, drop, reverse, Option, Some, None, Result, Ok, Err, OnOk, option_to_list}
 use Rattle.std.specs.Prelude.{slice_get}
 use Rattle.std.proofs.lemmas.List.{append_assoc, append-nil, drop-append-le, take-append-le, length-append, length-drop, length-reverse, length-take-le, reverse-append, reverse-reverse, take_rest, drop_all, drop-take, take-append-drop}
@@ -24,7 +24,7 @@ between_same from to vs ws a b =
     ∙ take-append-le (to - from) (drop from vs) ws (omega arith)
 
 module _ (order : List Value → List Value) where
-  -- calls are what they were, whatever values stand behind theirs
+  -- calls are what they were, whatever values follow theirs
   pub calls_same : (from : ℕ) (ms : List Mark) (to : ℕ) (vs ws : List Value) → EndAt from ms to → to ≤ length vs
       → calls_by order from ms (vs ++ ws) ≡ calls_by order from ms vs
   calls_same from [] to vs ws e le = refl
@@ -69,7 +69,7 @@ hand_kept : (n : ℕ) (vs : List Value) (v : Value) → n ≤ length vs
 hand_kept n vs v le =
     ap {A = List Value} reverse (drop-append-le n vs (v ∷ []) le) ∙ reverse-append (drop n vs) (v ∷ [])
 
--- these calls, and the values behind them in hand
+-- these calls, and the current values after them
 abbrev shown : List Mark → List Value → ℕ → Packed
 shown ms vs start = packed (frames_in 0 ms vs) (reverse (drop start vs))
 
@@ -107,7 +107,7 @@ module _ (ms : List Mark) (start : ℕ) (vs : List Value) (old : Packed) (ends :
   pub all_ends : (n : ℕ) → n ≡ length vs → old.hand ≡ [] → EndAt 0 ms n
   all_ends n is none = subst (EndAt 0 ms) (sym (is ∙ none_left none)) ends
 
-  -- nothing is left in hand
+  -- no current value is left
   module _ (few : List Value) (cut : few ≡ take start vs) where
     cut_long : length few ≡ start
     cut_long = ap {A = List Value} length cut ∙ length-take-le start vs within
@@ -148,7 +148,7 @@ module _ (ms : List Mark) (start : ℕ) (vs : List Value) (old : Packed) (ends :
         sym (ap (λ (p : Packed). p.hand) view) ∙ ap (λ (l : List Value). reverse (drop start l)) is
         ∙ hand_kept start few v (omega arith)
 
-  -- the call in hand is closed
+  -- the current call is closed
   module _ (more : List Mark) (m : Mark) (is : more ≡ ms ++ m ∷ []) (end : m.end ≡ length vs) where
     pub sealed_ends : EndAt 0 more m.end
     sealed_ends = subst (λ (l : List Mark). EndAt 0 l m.end) (sym is) (ends_more 0 ms start m ends (omega arith))
@@ -165,7 +165,7 @@ module _ (ms : List Mark) (start : ℕ) (vs : List Value) (old : Packed) (ends :
         ++ frame_of m.function m.point (reverse (drop start vs)) ∷ []) (reverse h)) (drop_all n vs (omega arith))
         ∙ ap (λ (p : Packed). packed (p.frames ++ frame_of m.function m.point p.hand ∷ []) []) view
 
-  -- the last call is taken in hand
+  -- the last call becomes current
   module _ (left : List Mark) (m : Mark) (few : List Value) (now : List Mark) (s : ℕ) (is : ms ≡ left ++ m ∷ [])
       (cut : few ≡ take start vs) (same : now ≡ left) (at : s ≡ end_in 0 now) where
     fits_left : EndAt 0 left (end_in 0 left) × (end_in 0 left ≤ start) × (m.end ≡ start)
@@ -205,7 +205,7 @@ module _ (ms : List Mark) (start : ℕ) (vs : List Value) (old : Packed) (ends :
               ∙ ap {A = List Value} reverse (drop-take s (m.end - s) vs),
         )
 
-  -- values were poured behind those of the calls
+  -- values were poured after those of the calls
   pub poured_view : (more slots : List Value) → old.hand ≡ [] → more ≡ vs ++ reverse slots
       → shown ms more start ≡ packed old.frames slots
   poured_view more slots none is =

@@ -12,7 +12,7 @@ use Rattle.lsl_code.proofs.Scans.{kinds_before, kinds_before_step, step_some}
 use Rattle.lsl_code.proofs.Tested.{within_list}
 use Rattle.lsl_code.proofs.Ways.{Open, Way, Ways}
 
--- the instructions stand at this place
+-- the instructions are at this place
 abbrev pub StandsAt : List Instr → ℕ → List Instr → Type 0
 StandsAt d pc [] = Unit {0}
 StandsAt d pc (i ∷ is) = (slice_get d pc ≡ Some i) × StandsAt d (pc + 1) is
@@ -41,7 +41,7 @@ has_from d (i ∷ is) pre c =
 pub has_all : (d : List Instr) → StandsAt d 0 d
 has_all d = has_from d d [] refl
 
--- an instruction that goes on to the next one
+-- an instruction that continues at the next one
 abbrev pub falls_through : Instr → Bool
 falls_through (Jump t) = false
 falls_through (JumpIf t) = false
@@ -69,7 +69,7 @@ all_fall_through-append (i ∷ a) b e f = step (falls_through i) e (λ g. all_fa
     step false e more = absurd cc
 
 module _ (s : Scope) (d : List Instr) where
-  -- the kinds behind instructions that run
+  -- the kinds after instructions that run
   pub kinds_behind : (is : List Instr) (pc : ℕ) (js : List Kind) → StandsAt d pc is
       → runs s is (kinds_before s d [] pc) ≡ Some js → kinds_before s d [] (pc + length is) ≡ js
   kinds_behind [] pc js h e =
@@ -90,7 +90,7 @@ module _ (s : Scope) (d : List Instr) where
       let e : pc + length (i ∷ a) ≡ pc + 1 + length a = omega arith in
       (ha.0, join (pc + 1) a b ha.1 (subst (λ n. Ways s d n b) e hb))
 
-  -- a place with an instruction that is no jump backward
+  -- a place with an instruction that isn't a jump backward
   pub open_at : (pc : ℕ) (i : Instr) → slice_get d pc ≡ Some i → is_back pc (Some i) ≡ false → Open s d pc
   open_at pc i e h = (within_list d pc i e, ap (λ o. not (is_back pc o)) e ∙ ap not h)
 
@@ -122,7 +122,7 @@ module _ (s : Scope) (d : List Instr) where
   through_way pc (Tick line) e o = o.0
   through_way pc i e o = o
 
-  -- code that is in order, and begins at an open place, where an open place stands behind it
+  -- code that is in order, and begins at an open place, if an open place follows it
   pub through_piece : (is : List Instr) (pc : ℕ) → all_fall_through is ≡ true → StandsAt d pc is
       → Open s d (pc + length is) → Ways s d pc is × Open s d pc
   through_piece [] pc e h o = let z : pc + 0 ≡ pc = omega arith in (tt, subst (Open s d) z o)

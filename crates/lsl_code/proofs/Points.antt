@@ -1,4 +1,4 @@
--- The points of a draft: each is its instruction's, and each stands once.
+-- The points of a draft: each is its instruction's, and each occurs once.
 use Rattle.std.proofs.Common.{◌≡◌, ℕ, zero, suc, ◌+◌, ◌<◌, List, [], ◌∷◌, ◌++◌, length, reverse, Some, None, cond, refl, sym, ap, ap₂, ◌∙◌, subst, arith, slice_get, append_assoc, length-append}
 use Rattle.std.specs.Prelude.{nat_eq}
 use Rattle.lsl_value.specs.declared.tagged.Kind.{Kind}
@@ -32,7 +32,7 @@ module _ (s : Scope) where
   map_first (Call f line) ks pre more = seam pre _ more
   map_first i ks pre more = tt
 
-  -- the points before those behind the instruction
+  -- the points before those after the instruction
   abbrev over : Instr → List Kind → List Point → List Point
   over i ks pre = pre ++ point_before s i ks []
 

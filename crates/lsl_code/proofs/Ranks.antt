@@ -73,12 +73,12 @@ left_in_most bodies (c ∷ outer) =
 pub left_most : (bodies : List Body) (m : Machine) → left bodies m ≤ fuel bodies m
 left_most bodies m = omega (arith, left_in_most bodies m.calls)
 
--- an instruction that is there stands within the code
+-- an instruction that is there is within the code
 pub fetch_within : (o : Option Body) (place : ℕ) (i : Instr) → instruction_in o place ≡ Some i → place < length_in o
 fetch_within None place i e = absurd cc
 fetch_within (Some body) place i e = slice_get_within body.code place i e
 
--- whether something stands there
+-- whether something is there
 abbrev pub There : Option Instr → ℕ → ℕ → Type 0
 There None q n = Unit {0}
 There (Some i) q n = q < n
@@ -152,7 +152,7 @@ rank_jumps (Some (JumpIf t)) next place n h = ap (λ b. rank_jump b place n) h
 rank_jumps (Some (JumpIfNot t)) next place n h = ap (λ b. rank_jump b place n) h
 rank_jumps o next place n h = absurd cc
 
--- behind a test
+-- after a test
 pub past_test : (b c : Bool) (pc n : ℕ) (o next : Option Instr) → is_tick o ≡ b → is_back (pc + 1) o ≡ c → pc < n
     → (c ≡ false → Flat (rank_of o next (pc + 1) n) (pc + 1) n) → rank_of o next (pc + 1) n < rank_test b c pc n
 past_test true c pc n o next e d lt flat = omega (arith, rank_tick o next (pc + 1) n e)

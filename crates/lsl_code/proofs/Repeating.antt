@@ -9,7 +9,7 @@ pub first_then : {S : Type 0} (step : S → Option S) (n : ℕ) (s t : S) (u : O
     → repeat step n t ≡ u → repeat step (suc n) s ≡ u
 first_then step n s t u e r = ap (option_and_then (repeat step n)) e ∙ r
 
--- what holds of each run of m steps holds behind a step
+-- what holds of each run of m steps holds after a step
 split_run : {S : Type 0} (step : S → Option S) (m n : ℕ) (t : S) (u : Option S)
     → ((s : S) → repeat step m s ≡ Some t → repeat step (m + n) s ≡ u) → (o : Option S)
     → option_and_then (repeat step m) o ≡ Some t → option_and_then (repeat step (m + n)) o ≡ u
@@ -57,7 +57,7 @@ no_longer_behind : {S : Type 0} (step : S → Option S) (k n : ℕ) (t u : S)
 no_longer_behind step k n t u h None a b = absurd (none-some t a)
 no_longer_behind step k n t u h (Some v) a b = h v a b
 
--- a run that has come to its end is the only one, and no run is longer
+-- a run that has ended is the only one, and no run is longer
 pub one_end : {S : Type 0} (step : S → Option S) (m n : ℕ) (s t u : S) → repeat step m s ≡ Some t
     → step t ≡ None → repeat step n s ≡ Some u → step u ≡ None → (m ≡ n) × (t ≡ u)
 one_end step zero zero s t u a over b over' = (refl, sym (here_is s t a) ∙ here_is s u b)
@@ -68,7 +68,7 @@ one_end step (suc m) zero s t u a over b over' =
 one_end step (suc m) (suc n) s t u a over b over' =
     one_behind step m n t u (λ v x y. one_end step m n v t u x over y over') (step s) a b
 
--- a run is no longer than the one that has come to its end
+-- a run is at most as long as the one that has ended
 pub no_longer : {S : Type 0} (step : S → Option S) (k n : ℕ) (s t u : S) → repeat step k s ≡ Some t
     → repeat step n s ≡ Some u → step u ≡ None → k ≤ n
 no_longer step zero n s t u a b over = omega arith

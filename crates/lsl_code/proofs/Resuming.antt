@@ -1,4 +1,4 @@
--- A run goes on from where it halted.
+-- A run continues from where it halted.
 use Rattle.std.proofs.Common.{◌≡◌, ℕ, zero, suc, ◌+◌, ◌<◌, ◌≤◌, List, refl, sym, ap, ◌∙◌, arith}
 use Rattle.lsl_value.specs.declared.names.BuiltinId.{BuiltinId}
 use Rattle.lsl_value.specs.declared.tagged.Value.{Value}
@@ -41,7 +41,7 @@ module _ (bodies : List Body) (forward : Forward bodies) where
           ∙ on_case m (step bodies m) refl (step_falls bodies forward m) (λ next lt. stretch n next (omega arith))
           ∙ sym (ap (after_ticks bodies k) (run_law bodies forward t m))
 
-  -- a run with more ticks is the run with fewer, gone on from where it was cut
+  -- a run with more ticks is the run with fewer, continued from where it was cut
   pub ticks_law : (t u k : ℕ) (m : Machine) → u ≡ t + k → run bodies u m ≡ after_ticks bodies k (run bodies t m)
   ticks_law zero u k m e = stretch zero u k e cut_same (left bodies m) m (omega arith)
     where

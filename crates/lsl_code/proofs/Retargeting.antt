@@ -1,4 +1,4 @@
--- Drafts and code whose jumps are led to other places.
+-- Drafts and code with changed targets of jumps.
 use Rattle.std.proofs.Common.{◌≡◌, ℕ, zero, suc, ◌<◌, ◌≤◌, List, [], ◌∷◌, ◌++◌, length, refl, sym, ap, ◌∙◌, ap₂, arith, get_or, slice_set}
 use Rattle.lsl_code.specs.declared.instructions.Instr.{Instr}
 use Rattle.lsl_code.specs.declared.instructions.Instr.TheVariants.{Tick, Call, Jump, JumpIf, JumpIfNot}
@@ -21,7 +21,7 @@ retargeted-set (x ∷ code) zero target i lt is = ap (λ y. targeted y target �
 retargeted-set (x ∷ code) (suc place) target i lt is =
     ap (λ l. x ∷ l) (retargeted-set code place target i (omega arith) is)
 
--- behind other code, and before it
+-- after other code, and before it
 pub retargeted-seam : (before : List Instr) (i : Instr) (behind : List Instr) (target : ℕ)
     → retargeted (before ++ i ∷ behind) (length before) target ≡ before ++ targeted i target ∷ behind
 retargeted-seam [] i behind target = refl

@@ -9,7 +9,7 @@ use Rattle.lsl_code.specs.Fits.{most_operands}
 use Rattle.lsl_code.specs.Kinds.{Scope}
 
 module _ (s : Scope) where
-  -- the kinds before place k, where these stand before the first
+  -- the kinds before place k, if these are before the first
   abbrev pub kinds_before : List Instr → List Kind → ℕ → List Kind
   kinds_before [] ks k = ks
   kinds_before (i ∷ is) ks zero = ks

@@ -1,4 +1,4 @@
--- The machine does not look at points, so a run can be followed over the draft.
+-- The machine doesn't look at points, so a run can be followed over the draft.
 use Rattle.std.proofs.Common.{◌≡◌, ℕ, ◌+◌, List, [], ◌∷◌, ◌++◌, length, Option, Some, None, option_map, refl, sym, ap, ◌∙◌, subst, arith, append_assoc, length-append, slice_get}
 use Rattle.lsl_value.specs.declared.tagged.Value.{Value}
 use Rattle.lsl_running.specs.declared.kept.Kept.{Kept}
@@ -20,7 +20,7 @@ act_seen lines (Some (Tick point)) bodies g held sl ops = refl
 act_seen lines (Some (Call f point)) bodies g held sl ops = refl
 act_seen lines (Some i) bodies g held sl ops = refl
 
--- in a function that is made of a draft, the draft is seen
+-- in a function that is built from a draft, the draft is seen
 pub seen_draft : (bodies : List Body) (f : ℕ) (name : List ℕ) (s : Scope) (params : ℕ) (d : List Instr)
     → slice_get bodies f ≡ Some (plain_body (finished name s params d)) → (place : ℕ)
     → seen bodies f place ≡ slice_get d place
@@ -51,7 +51,7 @@ has_from bodies f d (i ∷ is) pre h c =
     let rest = has_from bodies f d is (pre ++ i ∷ []) h (c ∙ sym (append_assoc pre (i ∷ []) is)) in
     (h (length pre) ∙ ap (λ l. slice_get l (length pre)) c ∙ seam pre i is, subst (λ m. HasAt bodies f m is) n rest)
 
--- a function that is made of a draft has all of it
+-- a function that is built from a draft has all of it
 pub has_draft : (bodies : List Body) (f : ℕ) (name : List ℕ) (s : Scope) (params : ℕ) (d : List Instr)
     → slice_get bodies f ≡ Some (plain_body (finished name s params d)) → HasAt bodies f 0 d
 has_draft bodies f name s params d there = has_from bodies f d d [] (seen_draft bodies f name s params d there) refl

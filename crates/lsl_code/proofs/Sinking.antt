@@ -9,7 +9,7 @@ use Rattle.lsl_code.specs.Forward.{is_back, goes_back, is_tick, frees, Lands, Fo
 use Rattle.lsl_code.proofs.Acts.{is_straight, LeadsTo, leaves, is_host, By}
 use Rattle.lsl_code.proofs.Ranks.{rank_jump, rank_test, rank_of, rank_at, Flat, rank_flat, rank_after, rank_enter, rank_go, past_jump, rank_open, past_test, there_within}
 
--- where a call's act goes on in the same stretch, less than k is left of this call, or of it and its callee
+-- where a call's act continues in the same stretch, less than k is left of this call, or of it and its callee
 abbrev pub Sinks : List Body → ℕ → ℕ → ℕ → Did → Type 0
 Sinks bodies f pc k (Goes sl ops g) = rank_at bodies f (pc + 1) < k
 Sinks bodies f pc k (Jumps t ops) = rank_at bodies f t < k

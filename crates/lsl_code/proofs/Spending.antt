@@ -1,4 +1,4 @@
--- What saved calls are charged, one after another.
+-- The charge of saved calls, one after another.
 use Rattle.std.proofs.Common.{◌≡◌, ◌∙◌, ap, arith, ℕ, ◌+◌, ◌<◌, List, take, Option, Some, None, MatchOption, sum_by}
 use Rattle.std.specs.Prelude.{slice_get}
 use Rattle.std.proofs.lemmas.List.Sums.{sum_by-take-le, sum_by_more}

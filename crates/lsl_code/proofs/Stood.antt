@@ -32,7 +32,7 @@ same_body : (bodies : List Body) (f : ℕ) (a b : Body) → slice_get bodies f �
 same_body bodies f a b p q = cc
 
 module _ (bodies : List Body) where
-  -- the call of a frame at a point whose map has its kinds
+  -- the call of a frame at a point with its kinds in the map
   stands_with : (c : MachineCall) (k p : ℕ) (callee : Option ℕ) (w : Body) (ks : List Kind)
       → slice_get bodies c.function ≡ Some w → slice_get w.code k ≡ Some (point_instr callee p)
       → HasMap w.points p callee (w.slots ++ reverse ks) → kinds_of c.slots ≡ w.slots

@@ -1,4 +1,4 @@
--- What instructions take off the kinds of operands, and what the tests of the table of kinds tell.
+-- What instructions take off the kinds of operands, and what the tests of the table of kinds say.
 use Rattle.std.proofs.Common.{◌≡◌, ℕ, ◌<◌, List, [], ◌∷◌, ◌++◌, length, take, drop, reverse, Option, Some, None, option_map, Bool, true, false, cond, refl, sym, ap, ap₂, ◌∙◌, arith}
 use Rattle.std.specs.Prelude.{nat_lt, is_some, is_none}
 use Rattle.std.proofs.lemmas.Bool.Decides.{nat_tests}
@@ -13,7 +13,7 @@ use Rattle.lsl_code.proofs.Sames.{same_is}
 use Rattle.lsl_code.proofs.Steps.{strip_drop}
 use Rattle.lsl_code.proofs.ValueKinds.{some_is, kinds_take, kinds_drop, kinds_append}
 
--- what stands on top
+-- what is on top
 pub strip_take : (ps ks : List Kind) → is_some (strip ps ks) ≡ true → take (length ps) ks ≡ ps
 strip_take [] ks e = refl
 strip_take (p ∷ ps) [] e = absurd cc

@@ -1,4 +1,4 @@
--- What the tests of units tell.
+-- What the tests of units say.
 use Rattle.std.proofs.Common.{◌≡◌, ℕ, suc, ◌+◌, ◌≤◌, List, [], ◌∷◌, Option, Some, None, Bool, true, false, cond, refl, sym, ap, ◌∙◌, arith, slice_get}
 use Rattle.std.specs.Prelude.{not, nat_le, is_none}
 use Rattle.std.proofs.lemmas.Bool.Decides.{nat_tests}
@@ -47,7 +47,7 @@ begins_told : (code : List Instr) (next : Option Instr) → begins_with_tick cod
 begins_told (Tick point ∷ code) next e = refl
 begins_told code next e = absurd cc
 
--- a jump backward stands only behind a tick
+-- a jump backward is only after a tick
 behind_told : (code : List Instr) (place : ℕ) (i : Instr) (next : Option Instr) → jumps_on code place i ≡ true
     → is_plain i ≡ true → frees i place next ≡ false → is_quiet code (place + 1) ≡ true
 behind_told code place (Jump to) next j p f = (both_true _ _ j).1
@@ -103,7 +103,7 @@ module _ (bodies : List Body) (start : (f : ℕ) (w : Body) → slice_get bodies
       quiet_told f w there (place + 1)
       (behind_told w.code place i _ (jump_told f w there place i e) (plain_told f w there place i e) free)
 
-  -- the jumps of plain code go back only behind ticks
+  -- the jumps of plain code go back only after ticks
   pub forward_told : Forward bodies
   forward_told = record {
     lands = λ f place i e. lands_in f place i (slice_get bodies f) refl e;
@@ -122,7 +122,7 @@ handles_told bodies h (Some w) there e =
     none_told None e = refl
     none_told (Some k) e = absurd cc
 
--- what a test at all places tells of each element
+-- what a test at all places says of each element
 pub all_told : {A : Type 0} (test : ℕ → A → Bool) (P : A → Type 0) (k : ℕ) (xs : List A)
     → ((j : ℕ) (x : A) → test j x ≡ true → P x) → all_places test k xs ≡ true → All P xs
 all_told test P k [] tells e = All-nil P

@@ -1,4 +1,4 @@
--- Where the instructions of a draft go on: only to where they may.
+-- Where the instructions of a draft continue: only where they may.
 use Rattle.std.proofs.Common.{◌≡◌, ℕ, zero, suc, ◌+◌, ◌<◌, List, [], ◌∷◌, length, Some, true, subst, arith, slice_get}
 use Rattle.lsl_value.specs.declared.tagged.Kind.{Kind}
 use Rattle.lsl_code.specs.declared.instructions.Instr.{Instr}
@@ -11,7 +11,7 @@ module _ (s : Scope) (d : List Instr) where
   abbrev pub Quiet : ℕ → Type 0
   Quiet q = is_quiet d q ≡ true
 
-  -- an instruction is there, and is no jump backward
+  -- an instruction is there, and isn't a jump backward
   abbrev pub Open : ℕ → Type 0
   Open q = (q < length d) × Quiet q
 
@@ -23,7 +23,7 @@ module _ (s : Scope) (d : List Instr) where
   abbrev pub Clear : ℕ → Type 0
   Clear q = Open q × (kinds_at q ≡ [])
 
-  -- an instruction goes on to where it may
+  -- an instruction continues where it may
   abbrev pub Way : ℕ → Instr → Type 0
   Way pc (Jump t) = Clear t × (kinds_at (pc + 1) ≡ []) × Quiet (pc + 1)
   Way pc (JumpIf t) = Clear t × Clear (pc + 1)

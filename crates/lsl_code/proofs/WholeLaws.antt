@@ -1,5 +1,4 @@
--- What comes of a handler is the same with more ticks where it isn't cut, and with further answers where it
--- doesn't ask.
+-- The result of a handler is the same with more ticks if it isn't cut, and with further answers if it doesn't ask.
 use Rattle.std.proofs.Common.{◌≡◌, ◌≢◌, ℕ, ◌+◌, List, ◌++◌, Bool, true, false, cond, Option, None, Some, refl, ap, ◌∙◌, slice_get}
 use Rattle.lsl_value.specs.declared.names.BuiltinId.{BuiltinId}
 use Rattle.lsl_value.specs.declared.tagged.Value.{Value}

@@ -1,4 +1,4 @@
--- How many host calls stand ahead of the active calls before their next ticks.
+-- How many host calls are ahead of the active calls before their next ticks.
 use Rattle.std.specs.Prelude.{ℕ, suc, ◌+◌, Bool, true, false, nat_lt, List, [], ◌∷◌, Option, Some, None, drop, slice_get}
 use Rattle.lsl_code.specs.declared.instructions.Instr.{Instr}
 use Rattle.lsl_code.specs.declared.instructions.Instr.TheVariants.{Jump, JumpIf, JumpIfNot, Tick, TestSave, TestBack}
@@ -11,18 +11,18 @@ abbrev pub code_of : Option Body → List Instr
 code_of None = []
 code_of (Some body) = body.code
 
--- at a jump: backward, all of the code; else what stands behind it
+-- at a jump: backward, all of the code; otherwise what follows it
 abbrev pub due_jump : Bool → ℕ → List Instr → ℕ
 due_jump true place code = hosts code
 due_jump false place code = hosts (drop place code)
 
--- at a test: none before a tick, else as at a jump where one stands behind it
+-- at a test: none before a tick, otherwise as at a jump if one follows it
 abbrev pub due_test : Bool → Bool → ℕ → List Instr → ℕ
 due_test true back place code = 0
 due_test false back place code = due_jump back place code
 
--- at an instruction: none at a tick, else the host calls behind it in the code, since control goes back only behind a
--- tick
+-- at an instruction: none at a tick, otherwise the host calls after it in the code, since control goes back only after
+-- a tick
 abbrev pub due_of : Option Instr → Option Instr → ℕ → List Instr → ℕ
 due_of (Some (Tick point)) next place code = 0
 due_of (Some (Jump t)) next place code = due_jump (nat_lt t (suc place)) place code

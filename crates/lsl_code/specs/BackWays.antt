@@ -15,8 +15,8 @@ pub data Put : Type 0 where
   ToSlot : ℕ → Put
   ToTop : Put
 
--- where the values are put, one after another, the function that is called at the end, or none, and the place
--- where the call then stands
+-- where the values are put, one after another, the function that is called at the end, or none, and the place of the
+-- call then
 pub record BackWay : Type 0 where
   pub puts : List Put
   pub callee : Option ℕ
@@ -29,7 +29,7 @@ abbrev pub way_end : List Instr → ℕ → Option ℕ → Option BackWay
 way_end code place callee =
     Some (record { puts = []; callee = callee; lands = landing (slice_get code (place + 1)) (place + 1) })
 
--- `opened` tells whether a frame is in hand, p is its point
+-- `opened` says whether a frame is current; p is its point
 abbrev pub backs_at : List Instr → (Bool → ℕ → Option BackWay) → Bool → ℕ → ℕ → Option Instr → Option BackWay
 backs_at code go opened p place (Some (TestBack to)) = onward place to (go opened to)
 backs_at code go opened p place (Some (Jump to)) = onward place to (go opened to)
@@ -46,7 +46,7 @@ abbrev pub backs : List Instr → ℕ → ℕ → Bool → ℕ → Option BackWa
 backs code zero p opened place = None
 backs code (suc n) p opened place = backs_at code (backs code n p) opened p place (slice_get code place)
 
--- the slots and the operands when the values, or their kinds, are put so; none may be left
+-- the slots and the operands when the values, or their kinds, are put this way; none may be left
 abbrev pub put_back : {A : Type 0} → List Put → List A → List A → List A → Option (List A × List A)
 put_back [] [] slots operands = Some (slots, operands)
 put_back [] (v ∷ values) slots operands = None
@@ -77,7 +77,7 @@ abbrev pub is_call_of : ℕ → ℕ → Option Instr → Bool
 is_call_of g p (Some (Call f q)) = nat_eq g f && nat_eq p q
 is_call_of g p i = false
 
--- the call then stands at the point's tick, or directly behind the point's call of this function
+-- the call is then at the point's tick, or directly after the point's call of this function
 abbrev pub lands_well : List Instr → ℕ → Option ℕ → Option ℕ → ℕ → Bool
 lands_well code p None None place = is_tick_of p (slice_get code place)
 lands_well code p (Some g) (Some f) (suc place) = nat_eq g f && is_call_of g p (slice_get code place)

@@ -1,4 +1,4 @@
--- From a draft of a function's code, which has lines where the points are to stand, to the function.
+-- From a draft of a function's code, which has lines in place of points, to the function.
 use Rattle.std.specs.Prelude.{◌≡◌, Bool, true, false, map, ℕ, suc, List, [], ◌∷◌, ◌++◌, Option, Some, None, max, length, take, reverse, slice_get}
 use Rattle.lsl_value.specs.declared.tagged.Kind.{Kind}
 use Rattle.lsl_code.specs.declared.instructions.Instr.{Instr}
@@ -16,7 +16,7 @@ pointed (Tick line) point = Tick point
 pointed (Call f line) point = Call f point
 pointed i point = i
 
--- the first free point behind it
+-- the first free point after it
 abbrev pub next_point : Instr → ℕ → ℕ
 next_point (Tick line) point = suc point
 next_point (Call f line) point = suc point
@@ -55,7 +55,7 @@ abbrev pub or_empty : Option (List Kind) → List Kind
 or_empty None = []
 or_empty (Some ks) = ks
 
--- the kinds behind an instruction, the top first
+-- the kinds after an instruction, the top first
 abbrev pub next : Scope → Instr → List Kind → List Kind
 next s i ks = or_empty (behind s i ks)
 
@@ -71,7 +71,7 @@ point_before s (Call f line) ks more =
     record { kinds = s.slots ++ reverse (waiting (slice_get s.functions f) ks); calls = Some f } ∷ more
 point_before s i ks more = more
 
--- the point is added behind these, whatever the function gives
+-- the point is added after these, whatever the function gives
 abbrev pub AddsPoint : Names → List Kind → Instr → List Kind → List Point → List Point → Type 0
 AddsPoint names slots i ks old new =
     (gives : Option Kind) → new ≡ old ++ point_before (scope names slots gives) i ks []
@@ -85,7 +85,7 @@ abbrev pub most_of : List (List Kind) → ℕ
 most_of [] = 0
 most_of (ks ∷ stacks) = max (length ks) (most_of stacks)
 
--- the function of this name with this draft, in this scope; so many of its slots are parameters
+-- the function of this name with this draft, in this scope; `count` of its slots are parameters
 abbrev pub finished : List ℕ → Scope → ℕ → List Instr → FunctionCode
 finished name s params draft = record {
   name = name;

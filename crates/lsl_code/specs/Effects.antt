@@ -1,5 +1,4 @@
--- The table of kinds: what an instruction finds, and the kinds of the operands behind it. They stand with the top
--- first.
+-- The table of kinds: what an instruction finds, and the kinds of the operands after it, with the top first.
 use Rattle.std.specs.Prelude.{zero, suc, ℕ, List, [], ◌∷◌, Bool, true, false, cond, Option, Some, None, nat_lt, length, drop, reverse, slice_get, is_none, option_map, option_and_then}
 use Rattle.lsl_value.specs.OperatorRows.{result_kind_of, casts_of}
 use Rattle.lsl_value.specs.declared.operators.BinaryOp.{BinaryOp}
@@ -18,7 +17,7 @@ strip [] ks = Some ks
 strip (p ∷ ps) [] = None
 strip (p ∷ ps) (k ∷ ks) = cond (same_kind p k) (strip ps ks) None
 
--- without so many elements of a list
+-- without n elements of a list
 abbrev pub gather : ℕ → List Kind → Option (List Kind)
 gather zero ks = Some ks
 gather (suc n) [] = None
@@ -64,7 +63,7 @@ abbrev pub operated : BinaryOp → List Kind → Option (List Kind)
 operated op ks =
     top_kind ks (λ left more. top_kind more (λ right rest. option_map (λ k. k ∷ rest) (result_kind_of op left right)))
 
--- the kinds behind an instruction, where it finds what it needs
+-- the kinds after an instruction that finds what it needs
 abbrev pub behind : Scope → Instr → List Kind → Option (List Kind)
 behind s (Int n) ks = Some (kind.Int ∷ ks)
 behind s (Str text) ks = Some (kind.Str ∷ ks)
@@ -107,7 +106,7 @@ behind s Branch ks = None
 behind s (Again f) ks = None
 behind s Awake ks = None
 
--- the kinds behind one instruction after another
+-- the kinds after one instruction after another
 abbrev pub runs : Scope → List Instr → List Kind → Option (List Kind)
 runs s [] ks = Some ks
 runs s (i ∷ is) ks = option_and_then (runs s is) (behind s i ks)

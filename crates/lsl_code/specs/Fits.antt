@@ -23,7 +23,7 @@ has_kinds (Some (Some js)) ks = same_kinds js (reverse ks)
 abbrev pub finds : Body → ℕ → List Kind → Bool
 finds w place ks = has_kinds (slice_get w.stacks place) ks
 
--- what an instruction goes on to finds these operands
+-- where an instruction continues finds these operands
 abbrev pub goes_on : Body → ℕ → Instr → List Kind → Bool
 goes_on w k (Jump to) ks = finds w to ks
 goes_on w k (JumpIf to) ks = finds w to ks && finds w (k + 1) ks
@@ -34,11 +34,11 @@ goes_on w k (GoState n) ks = true
 goes_on w k Reset ks = true
 goes_on w k i ks = finds w (k + 1) ks
 
--- no jump backward stands at this place
+-- no jump backward is at this place
 abbrev pub is_quiet : List Instr → ℕ → Bool
 is_quiet code place = not (is_back place (slice_get code place))
 
--- a jump backward stands only directly behind a tick, and no jump leads to one
+-- a jump backward is only directly after a tick, and no jump leads to one
 abbrev pub jumps_on : List Instr → ℕ → Instr → Bool
 jumps_on code k (Jump to) = is_quiet code to && is_quiet code (k + 1)
 jumps_on code k (JumpIf to) = is_quiet code to && is_quiet code (k + 1)
@@ -67,11 +67,11 @@ abbrev pub goes_on_with : Body → ℕ → Instr → Option (List Kind) → Bool
 goes_on_with w k i None = false
 goes_on_with w k i (Some js) = goes_on w k i js
 
--- an instruction finds what it needs, and so does each that it goes on to
+-- an instruction finds what it needs, and so does each where it continues
 abbrev pub fits_before : Scope → Body → ℕ → Instr → List Kind → Bool
 fits_before s w k i ks = goes_on_with w k i (behind s i ks) && has_point s w.points i ks
 
--- a running machine stands before each point's instruction, since a saved frame may name it
+-- a running machine can be before each point's instruction, since a saved frame may name it
 abbrev pub may_be_bare : Instr → Bool
 may_be_bare (Tick p) = false
 may_be_bare (Call f p) = false
@@ -94,13 +94,13 @@ abbrev pub begins_with_tick : List Instr → Bool
 begins_with_tick (Tick point ∷ code) = true
 begins_with_tick code = false
 
--- one more, where the point stands in the instruction
+-- one more, if the instruction has the point
 abbrev pub counted : ℕ → Instr → ℕ → ℕ
 counted number (Tick p) more = cond (nat_eq number p) (suc more) more
 counted number (Call f p) more = cond (nat_eq number p) (suc more) more
 counted number i more = more
 
--- how often a point stands in the code
+-- how often a point occurs in the code
 abbrev pub count_of : ℕ → List Instr → ℕ
 count_of number [] = 0
 count_of number (i ∷ is) = counted number i (count_of number is)

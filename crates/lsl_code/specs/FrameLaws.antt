@@ -17,7 +17,7 @@ StaysChained =
     (bodies : List Body) (handler : ℕ) (m : Machine) → IsChain bodies handler m.calls
     → IsChainedNext bodies handler (step bodies m)
 
--- a machine of a well-formed unit at a tick stands where its frames say
+-- a machine of a well-formed unit at a tick is where its frames say
 abbrev pub TicksHaveFrames : Type 0
 TicksHaveFrames =
     (globals : List Value) (states : List StateCode) (bodies : List Body)

@@ -16,13 +16,13 @@ point_in (Some (Tick point)) = point
 point_in (Some (Call f point)) = point
 point_in i = 0
 
--- the frame of a call whose tick, or whose call of another function, stands at this place: its slots, and its
--- operands from the first pushed
+-- the frame of a call whose tick, or call of another function, is at this place: its slots, and its operands from the
+-- first pushed
 abbrev pub frame_at : List Body → ℕ → MachineCall → Frame
 frame_at bodies place c =
     frame_of c.function (point_in (instruction_at bodies c.function place)) (c.slots ++ reverse c.operands)
 
--- a call that waits stands behind the call that it made
+-- a call that waits is after the call that it made
 abbrev pub waiting_frame : List Body → MachineCall → Frame
 waiting_frame bodies c = frame_at bodies (c.place - 1) c
 
@@ -75,7 +75,7 @@ FirstUnfit points handler callee (frame ∷ outer) zero = FitsFrame points handl
 FirstUnfit points handler callee (frame ∷ outer) (suc n) =
     FitsFrame points handler callee frame outer × FirstUnfit points handler (Some frame.function) outer n
 
--- the frame of this number is the first that does not fit, or there is none, and the number is 0
+-- the frame of this number is the first that doesn't fit, or there is none, and the number is 0
 abbrev pub IsFirstUnfit : Points → ℕ → List Frame → ℕ → Type 0
 IsFirstUnfit points handler [] n = n ≡ 0
 IsFirstUnfit points handler (frame ∷ outer) n = FirstUnfit points handler None (frame ∷ outer) n
@@ -83,7 +83,7 @@ IsFirstUnfit points handler (frame ∷ outer) n = FirstUnfit points handler None
 abbrev pub frame_charge : Frame → ℕ
 frame_charge frame = call_charge + charges_of frame.slots
 
--- what a machine with these frames and globals is charged
+-- the charge of a machine with these frames and globals
 abbrev pub parked_charge : List Value → List Frame → ℕ
 parked_charge globals frames = script_charge + charges_of globals + sum_by frame_charge frames
 

@@ -21,7 +21,7 @@ use Rattle.lsl_code.specs.Machine.{MachineCall, Machine, End, Ended, Faulted, Lo
 use Rattle.lsl_code.specs.WellFormed.{StandsWith, IsWellFormedUnit}
 use Rattle.lsl_code.specs.Wholes.{begun}
 
--- with operands of these kinds, the call stands where its function wants them, and its slots have their kinds
+-- with operands of these kinds, the call is where its function wants them, and its slots have their kinds
 abbrev pub IsKindedCall : Body → MachineCall → List Kind → Type 0
 IsKindedCall w c ks = (kinds_of c.slots ≡ w.slots) × StandsWith w c.place ks
 

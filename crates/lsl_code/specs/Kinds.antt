@@ -1,4 +1,4 @@
--- Kinds of values compared, and what functions and units tell of their kinds.
+-- Kinds of values compared, and the kinds of functions and units.
 use Rattle.std.specs.Prelude.{ℕ, Bool, true, false, ◌&&◌, nat_eq, List, [], ◌∷◌, length, map, Option}
 use Rattle.lsl_value.specs.Values.{kind_of}
 use Rattle.lsl_value.specs.declared.names.BuiltinId.{BuiltinId}
@@ -29,7 +29,7 @@ same_kinds (a ∷ js) (b ∷ ks) = same_kind a b && same_kinds js ks
 same_kinds [] (b ∷ ks) = false
 same_kinds (a ∷ js) [] = false
 
--- a list's elements are no lists
+-- a list's elements aren't lists
 abbrev pub is_element : Kind → Bool
 is_element kind.List = false
 is_element k = true

@@ -1,5 +1,5 @@
--- What saving a machine, and restoring frames, end with: the code's own instructions do it, and what stands
--- beside the calls stays.
+-- What saving a machine, and restoring frames, end with: the code's own instructions do it, and what is beside the
+-- calls stays.
 use Rattle.std.specs.Prelude.{ℕ, ◌≡◌, List, [], Option, Some, slice_get, option_map}
 use Rattle.lsl_running.specs.declared.host.Reply.{Reply}
 use Rattle.lsl_running.specs.declared.kept.Kept.{Kept}
@@ -15,7 +15,7 @@ pub record Beside : Type 0 where
   pub kept : Kept
   pub answers : List Reply
 
--- a state of saving or restoring, with what stands beside it
+-- a state of saving or restoring, with what is beside it
 pub record Whole (S : Type 0) : Type 0 where
   pub part : S
   pub beside : Beside
@@ -23,14 +23,14 @@ pub record Whole (S : Type 0) : Type 0 where
 abbrev pub whole : {S : Type 0} → Beside → S → Whole S
 whole x s = record { part = s; beside = x }
 
--- a step, which no instruction lets touch what stands beside
+-- a step, in which no instruction touches what is beside
 abbrev pub step_beside : {S : Type 0} → (S → Option S) → Whole S → Option (Whole S)
 step_beside step s = option_map (whole s.beside) (step s.part)
 
 abbrev pub beside_of : Machine → Beside
 beside_of m = record { kept = m.kept; answers = m.answers }
 
--- saving this machine, which stands at a tick, ends with these frames and these globals, limit and answers
+-- saving this machine, which is at a tick, ends with these frames and these globals, limit and answers
 abbrev pub SaveRun : List Body → Machine → List Frame → Beside → Type 0
 SaveRun bodies m frames x =
     (n : ℕ)

@@ -8,7 +8,7 @@ use Rattle.lsl_code.specs.declared.woven_functions.WovenCode.{WovenCode}
 use Rattle.lsl_code.specs.Fits.{has_kinds}
 use Rattle.lsl_code.specs.SaveWays.{waiting_kinds}
 
--- a call stands before the instruction at this place, with operands of these kinds, the top first
+-- a call is before the instruction at this place, with operands of these kinds, the top first
 pub record Stop : Type 0 where
   pub place : ℕ
   pub kinds : List Kind
@@ -16,12 +16,12 @@ pub record Stop : Type 0 where
 abbrev pub stop_at : ℕ → List Kind → Stop
 stop_at place kinds = record { place = place; kinds = kinds }
 
--- what g makes of each element and its number, one after another
+-- the results of g for each element and its number, one after another
 abbrev pub flat : {A B : Type 0} → (ℕ → A → List B) → ℕ → List A → List B
 flat g i [] = []
 flat g i (x ∷ xs) = g i x ++ flat g (suc i) xs
 
--- where a call that saves stands behind this instruction, which stands at this place
+-- the next place on the save path, or none at its end
 abbrev pub saves_on : (ℕ → List Kind → List Stop) → ℕ → List Kind → Option Instr → List Stop
 saves_on go place ks (Some (TestSave to)) = go to ks
 saves_on go place ks (Some (Jump to)) = go to ks
@@ -35,7 +35,7 @@ save_stops code zero place ks = []
 save_stops code (suc n) place ks =
     stop_at place ks ∷ saves_on (save_stops code n) place ks (slice_get code place)
 
--- directly behind a point's instruction
+-- directly after a point's instruction
 abbrev pub behind_point : List Kind → List Instr → ℕ → Option Point → List Stop
 behind_point slots code place None = []
 behind_point slots code place (Some point) =
@@ -55,8 +55,7 @@ abbrev pub pushed_on : (List Kind → List Kind → List Stop) → List Kind →
 pushed_on go [] ks = []
 pushed_on go (k ∷ hand) ks = go hand (k ∷ ks)
 
--- where a call that restores a frame of point p stands behind this instruction; the frame has values of the kinds in
--- hand left
+-- the next place on the restore path, or none at its end; the current values have these kinds
 abbrev pub restores_on : (ℕ → List Kind → List Kind → List Stop) → ℕ → ℕ → List Kind → List Kind → Option Instr
     → List Stop
 restores_on go p place hand ks (Some (TestBack to)) = go to hand ks

@@ -1,11 +1,11 @@
--- What saving and restoring share: steps, one after another, and a call that goes on at another place.
+-- What saving and restoring share: steps, one after another, and a call that continues at another place.
 use Rattle.std.specs.Prelude.{ℕ, zero, suc, List, Option, Some, option_and_then}
 use Rattle.lsl_value.specs.declared.tagged.Value.{Value}
 use Rattle.lsl_code.specs.declared.instructions.Instr.{Instr}
 use Rattle.lsl_code.specs.declared.instructions.Instr.TheVariants.{Jump}
 use Rattle.lsl_code.specs.Machine.{MachineCall, call_at}
 
--- n steps, none of which is refused
+-- n steps, none of which fails
 abbrev pub repeat : {S : Type 0} → (S → Option S) → ℕ → S → Option S
 repeat step zero s = Some s
 repeat step (suc n) s = option_and_then (repeat step n) (step s)

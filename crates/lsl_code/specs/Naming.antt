@@ -1,4 +1,4 @@
--- What a reader is told of a unit: the names of its functions and states, and the lines of its points.
+-- The names of a unit's functions and states, and the lines of its points, for a reader.
 use Rattle.std.specs.Prelude.{◌≡◌, ℕ, ◌<◌, List, [], length, Option, Some, None, get_or, slice_get}
 use Rattle.lsl_code.specs.declared.functions.StateCode.{StateCode}
 use Rattle.lsl_code.specs.declared.woven_functions.WovenCode.{WovenCode}
@@ -22,7 +22,7 @@ abbrev pub lines_in : Option WovenCode → List ℕ
 lines_in None = []
 lines_in (Some function) = function.lines
 
--- the line of the text at which a call stands at this point
+-- the line of the text for a call at this point
 abbrev pub line_of : List WovenCode → (function point : ℕ) → ℕ
 line_of functions function point = get_or (lines_in (slice_get functions function)) point 0
 

@@ -1,5 +1,5 @@
--- Saved calls whose values lie in one list: those of each call behind those of the call before it, and of each the
--- last first.
+-- Saved calls with values in one list: those of each call after those of the call before it, and of each the last
+-- first.
 use Rattle.std.specs.Prelude.{ℕ, ◌-◌, ◌≡◌, ◌≤◌, List, [], ◌∷◌, take, drop, reverse}
 use Rattle.lsl_value.specs.declared.tagged.Value.{Value}
 use Rattle.lsl_code.specs.declared.frames.Frame.{Frame}
@@ -18,7 +18,7 @@ packed frames hand = record { frames = frames; hand = hand }
 abbrev pub values_between : ℕ → ℕ → List Value → List Value
 values_between from to values = take (to - from) (drop from values)
 
--- the calls whose values begin at this place; this is done to the values of each
+-- the calls whose values begin at this place, with this done to the values of each
 abbrev pub calls_by : (List Value → List Value) → ℕ → List Mark → List Value → List Frame
 calls_by order from [] values = []
 calls_by order from (m ∷ marks) values =
@@ -27,7 +27,7 @@ calls_by order from (m ∷ marks) values =
 abbrev pub frames_in : ℕ → List Mark → List Value → List Frame
 frames_in = calls_by reverse
 
--- each call's values end no earlier than they begin, and the last one's at this place
+-- each call's values end where they begin, or later, and the last one's at this place
 abbrev pub EndAt : ℕ → List Mark → ℕ → Type 0
 EndAt from [] to = from ≡ to
 EndAt from (m ∷ marks) to = (from ≤ m.end) × EndAt m.end marks to

@@ -1,5 +1,5 @@
--- The machine while it restores: what the added instructions make of the innermost call, of the frame in
--- hand and of the frames that are left.
+-- The machine while it restores: the effect of the added instructions on the innermost call, the current frame and the
+-- frames that are left.
 use Rattle.std.specs.Prelude.{ℕ, ◌+◌, List, [], ◌∷◌, Option, Some, None, Bool, true, false, map, slice_get, slice_set, option_map}
 use Rattle.lsl_value.specs.declared.tagged.Value.{Value}
 use Rattle.lsl_running.specs.Values.{empty_of}
@@ -10,8 +10,8 @@ use Rattle.lsl_code.specs.Bodies.{Body, instruction_in, instruction_at}
 use Rattle.lsl_code.specs.Machine.{MachineCall, call_at}
 use Rattle.lsl_code.specs.Modes.{at_place, landing}
 
--- the calls so far, the innermost first, the point and the values of the frame in hand, the frames that are
--- left, and whether restoring has ended
+-- the calls so far, the innermost first, the point and the values of the current frame, the frames that are left, and
+-- whether restoring has ended
 pub record Restoring : Type 0 where
   pub calls : List MachineCall
   pub point : ℕ
@@ -34,16 +34,16 @@ blank f body = call_at f 0 (map empty_of body.slots) []
 
 -- what one instruction does
 pub data BackAct : Type 0 where
-  -- on with this call, this frame in hand, and these frames left
+  -- continues with this call, this current frame, and these frames left
   Moves : (call : MachineCall) (point : ℕ) (hand : List Value) (sack : List Frame) → BackAct
   -- this function is entered, and the call waits for it
   Reenters : (callee : ℕ) (caller : MachineCall) → BackAct
   -- restoring ends
   Wakes : MachineCall → BackAct
-  -- no instruction, or none that restores
+  -- no instruction, or one that doesn't restore
   NoBack : BackAct
 
--- the outermost frame is taken, which stands last
+-- the outermost frame, which is the last, becomes current
 abbrev pub unpacked : List Frame → (List Frame → Frame → BackAct) → BackAct
 unpacked [] go = NoBack
 unpacked (frame ∷ []) go = go [] frame
@@ -60,12 +60,12 @@ abbrev pub where_slot : Option Value → BackAct → BackAct
 where_slot None act = NoBack
 where_slot (Some v) act = act
 
--- a jump directly behind `Again` or `Awake` belongs to it: a restored call waits directly behind its call,
--- and a restored machine stands at its tick
+-- a jump directly after `Again` or `Awake` belongs to it: a restored call waits directly after its call, and a restored
+-- machine is at its tick
 abbrev pub lands : Option Body → MachineCall → MachineCall
 lands body c = at_place c (landing (instruction_in body (c.place + 1)) (c.place + 1)) c.operands
 
--- of the innermost call, whose function has this body, the frame in hand and the frames that are left
+-- of the innermost call, whose function has this body, the current frame and the frames that are left
 abbrev pub back_act : Option Body → Option Instr → MachineCall → ℕ → List Value → List Frame → BackAct
 back_act body (Some (TestBack to)) c point hand sack = Moves (at_place c to c.operands) point hand sack
 back_act body (Some (Jump to)) c point hand sack = Moves (at_place c to c.operands) point hand sack

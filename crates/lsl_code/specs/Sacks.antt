@@ -12,7 +12,7 @@ use Rattle.lsl_code.specs.Saving.{frame_of}
 abbrev pub calls_in : ℕ → List Mark → List Value → List Frame
 calls_in = calls_by (λ values. values)
 
--- the calls on a stack, the innermost first: its values lie behind those of the calls around it
+-- the calls on a stack, the innermost first: its values lie after those of the calls around it
 abbrev pub stack_frames : ℕ → ℕ → List Mark → List Value → List Frame
 stack_frames function point outer values =
     frame_of function point (drop (end_in 0 outer) values) ∷ reverse (calls_in 0 outer values)
@@ -21,7 +21,7 @@ abbrev pub sack_frames : Option Top → List Mark → List Value → List Frame
 sack_frames None outer values = []
 sack_frames (Some top) outer values = stack_frames top.function top.point outer values
 
--- each call's values end no earlier than they begin, and the last one's no later than here
+-- each call's values end where they begin or later, and the last one's here or earlier
 abbrev pub EndsWithin : ℕ → List Mark → ℕ → Type 0
 EndsWithin from [] to = from ≤ to
 EndsWithin from (m ∷ marks) to = (from ≤ m.end) × EndsWithin m.end marks to

@@ -21,7 +21,7 @@ pub record SaveWay : Type 0 where
 abbrev pub keeping : Keep → SaveWay → SaveWay
 keeping k way = record { order = k ∷ way.order; point = way.point }
 
--- on, where the jump leads forward
+-- continues, if the jump leads forward
 abbrev pub onward : {A : Type 0} → ℕ → ℕ → Option A → Option A
 onward place to way = cond (nat_lt place to) way None
 
@@ -42,7 +42,7 @@ abbrev pub with_one : {A B : Type 0} → Option A → (A → Option B) → Optio
 with_one None go = None
 with_one (Some a) go = go a
 
--- what is in hand when these are kept, of values or of their kinds; no operand may be left
+-- the current values when these are kept, or their kinds; no operand may be left
 abbrev pub kept : {A : Type 0} → List A → List Keep → List A → List A → Option (List A)
 kept slots [] [] hand = Some hand
 kept slots [] (o ∷ operands) hand = None
@@ -86,8 +86,7 @@ saves_point w place p (Some point) =
     is_test (slice_get w.code (place + 1))
     && is_save_way w.slots p point (keeps w.code (length w.code) (place + 1))
 
--- directly behind each tick and each call stands a test, from which saving goes forward to the end of that
--- point's frame
+-- directly after each tick and each call is a test, from which saving goes forward to the end of that point's frame
 abbrev pub saves_at : Body → ℕ → Instr → Bool
 saves_at w place (Tick p) = saves_point w place p (slice_get w.points p)
 saves_at w place (Call f p) = saves_point w place p (slice_get w.points p)

@@ -1,5 +1,4 @@
--- The machine while it saves: what the added instructions make of the innermost call and of the frame in
--- hand.
+-- The machine while it saves: the effect of the added instructions on the innermost call and the current frame.
 use Rattle.std.specs.Prelude.{ℕ, ◌+◌, List, [], ◌∷◌, ◌++◌, Option, Some, None, slice_get}
 use Rattle.lsl_value.specs.declared.tagged.Value.{Value}
 use Rattle.lsl_code.specs.declared.frames.Frame.{Frame}
@@ -21,11 +20,11 @@ saving calls hand sack = record { calls = calls; hand = hand; sack = sack }
 
 -- what one instruction does
 pub data SaveAct : Type 0 where
-  -- on with this call, and these values in hand
+  -- continues with this call, and these current values
   Keeps : MachineCall → List Value → SaveAct
   -- this frame is closed, and the call is left
   Seals : Frame → SaveAct
-  -- no instruction, or none that saves
+  -- no instruction, or one that doesn't save
   NoSave : SaveAct
 
 abbrev pub keeps_slot : Option Value → (Value → SaveAct) → SaveAct
@@ -39,7 +38,7 @@ keeps_top (v ∷ rest) go = go v rest
 abbrev pub frame_of : ℕ → ℕ → List Value → Frame
 frame_of f point values = record { function = f; point = point; slots = values }
 
--- of the innermost call and the values in hand
+-- of the innermost call and the current values
 abbrev pub save_act : Option Instr → MachineCall → List Value → SaveAct
 save_act (Some (TestSave to)) c hand = Keeps (at_place c to c.operands) hand
 save_act (Some (Jump to)) c hand = Keeps (at_place c to c.operands) hand
@@ -65,7 +64,7 @@ save_step_in bodies (c ∷ outer) hand sack =
 abbrev pub save_step : List Body → Saving → Option Saving
 save_step bodies s = save_step_in bodies s.calls s.hand s.sack
 
--- a machine at a tick goes on behind it, and saves
+-- a machine at a tick continues after it, and saves
 abbrev pub begins_saving : List MachineCall → Saving
 begins_saving [] = saving [] [] []
 begins_saving (c ∷ outer) = saving (at_place c (c.place + 1) c.operands ∷ outer) [] []

@@ -1,4 +1,4 @@
--- Machines at a tick: where their calls stand, and which frames they have.
+-- Machines at a tick: where their calls are, and which frames they have.
 use Rattle.std.specs.Prelude.{ℕ, ◌+◌, ◌≡◌, List, [], ◌∷◌, ◌++◌, Option, Some, None, length, reverse, slice_get}
 use Rattle.lsl_code.specs.declared.frames.Frame.{Frame}
 use Rattle.lsl_code.specs.declared.functions.Point.{Point}
@@ -8,7 +8,7 @@ use Rattle.lsl_code.specs.Bodies.{Body, instruction_at}
 use Rattle.lsl_code.specs.Kinds.{kinds_of}
 use Rattle.lsl_code.specs.Machine.{MachineCall, Next, On, Pauses, Halts, Passing, Waiting}
 
--- the call stands directly behind its call of this function
+-- the call is directly after its call of this function
 abbrev pub IsWaitingFor : List Body → MachineCall → ℕ → Type 0
 IsWaitingFor bodies c g =
     (b : Body) × (k : ℕ) × (p : ℕ) × (slice_get bodies c.function ≡ Some b) × (c.place ≡ k + 1)
@@ -39,7 +39,7 @@ abbrev pub point_instr : Option ℕ → ℕ → Instr
 point_instr None p = Tick p
 point_instr (Some g) p = Call g p
 
--- the call is at the frame's point, whose instruction is at place k, and has the frame's values
+-- the call is at the frame's point, with its instruction at place k, and has the frame's values
 pub record Stands (bodies : List Body) (c : MachineCall) (k : ℕ) (callee : Option ℕ)
     (frame : Frame) : Type 0 where
   pub body : Body

@@ -1,9 +1,9 @@
--- Jumps that are led to other places.
+-- Jumps with changed targets.
 use Rattle.std.specs.Prelude.{ℕ, zero, suc, List, [], ◌∷◌}
 use Rattle.lsl_code.specs.declared.instructions.Instr.{Instr}
 use Rattle.lsl_code.specs.declared.instructions.Instr.TheVariants.{Jump, JumpIf, JumpIfNot}
 
--- the jump that leads to this place. What is no jump of plain code stays
+-- the jump that leads to this place. What isn't a jump of plain code stays
 abbrev pub targeted : Instr → ℕ → Instr
 targeted (Jump to) target = Jump target
 targeted (JumpIf to) target = JumpIf target

@@ -11,8 +11,8 @@ use Rattle.lsl_code.specs.Bodies.{Body}
 use Rattle.lsl_code.specs.Fits.{all_places, finds, fits_at, jumps_on, begins_with_tick, is_once, most_operands, plain_at}
 use Rattle.lsl_code.specs.Kinds.{same_kinds, scope, names_in}
 
--- while the function runs, its instructions find what they need, its points stand once each and have a line each,
--- and it has the parameters and the greatest count of operands that it names
+-- while the function runs, its instructions find what they need, its points occur once each and have a line each, and
+-- it has the parameters and the greatest count of operands that it names
 abbrev pub fits_running : Names → Body → Bool
 fits_running names w =
     finds w 0 []
@@ -31,7 +31,7 @@ is_short w = nat_lt (length w.code) 4294967296
 abbrev pub fits_function : Names → ℕ → Body → Bool
 fits_function names f w = begins_with_tick w.code && fits_running names w && is_short w
 
--- code that only runs, and goes back only behind ticks
+-- code that only runs, and goes back only after ticks
 abbrev pub is_plain_function : ℕ → Body → Bool
 is_plain_function f w = all_places plain_at 0 w.code && all_places (jumps_on w.code) 0 w.code
 
@@ -85,7 +85,7 @@ handler_of states n e = handler_at (slice_get states n) e
 abbrev pub state_fits : List Body → ℕ → StateCode → Bool
 state_fits bodies n s = all_places (handler_fits bodies) 0 s.handlers && events_differ s.handlers
 
--- there are 1 to 65,535 states, whose handlers are functions
+-- there are 1 to 65,535 states, and their handlers are functions
 abbrev pub fits_states : List Body → List StateCode → Bool
 fits_states bodies states =
     nat_le 1 (length states) && nat_le (length states) 65535 && all_places (state_fits bodies) 0 states

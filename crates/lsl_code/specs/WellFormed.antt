@@ -1,4 +1,4 @@
--- What the tests of units tell, in the terms of kinds, places and points.
+-- What the tests of units say, in the terms of kinds, places and points.
 use Rattle.std.specs.Prelude.{◌≡◌, ◌≢◌, ℕ, ◌<◌, ◌≤◌, List, [], Option, Some, None, true, length, take, reverse, slice_get, All}
 use Rattle.std.specs.List.{AllPairs}
 use Rattle.lsl_value.specs.declared.tagged.Kind.{Kind}
@@ -18,12 +18,12 @@ use Rattle.lsl_code.specs.Standing.{point_instr}
 use Rattle.lsl_code.specs.Units.{fits_unit}
 use Rattle.lsl_code.specs.Woven.{is_woven}
 
--- operands of these kinds, the top first, stand before the instruction at this place
+-- operands of these kinds, the top first, are before the instruction at this place
 abbrev pub StandsWith : Body → ℕ → List Kind → Type 0
 StandsWith w place ks = slice_get w.stacks place ≡ Some (Some (reverse ks))
 
--- an instruction finds what it needs, what it goes on to finds the kinds behind it, and its point has those before
--- it in its map
+-- an instruction finds what it needs, where it continues finds the kinds after it, and its point has those before it in
+-- its map
 abbrev pub FindsItsOperands : Scope → Body → ℕ → Instr → List Kind → Type 0
 FindsItsOperands s w place i ks =
     (js : List Kind) × (behind s i ks ≡ Some js) × (goes_on w place i js ≡ true)
@@ -35,7 +35,7 @@ pub record IsWellFormedFunction (names : Names) (w : Body) : Type 0 where
   pub stacks : length w.stacks ≡ length w.code
   pub finds : (place : ℕ) (i : Instr) (ks : List Kind) → slice_get w.code place ≡ Some i → StandsWith w place ks
       → FindsItsOperands (scope names w.slots w.result) w place i ks
-  -- a running machine stands before each point's instruction
+  -- a running machine can be before each point's instruction
   pub stands : (place p : ℕ) (callee : Option ℕ) → slice_get w.code place ≡ Some (point_instr callee p)
       → (ks : List Kind) × StandsWith w place ks
   pub once : (p : ℕ) (point : Point) → slice_get w.points p ≡ Some point → count_of p w.code ≡ 1

@@ -1,5 +1,5 @@
--- What comes of a handler that a unit's code runs from its start, and the calls of a machine that is cut, each
--- with its line.
+-- The result of a handler that a unit's code runs from its start, and the calls of a machine that is cut, each with its
+-- line.
 use Rattle.std.specs.Prelude.{ℕ, ◌-◌, List, [], ◌∷◌, Option, Some, None, cond, map, get_or, slice_get, option_map}
 use Rattle.lsl_value.specs.declared.tagged.Value.{Value}
 use Rattle.lsl_running.specs.declared.ends.Fault.TheVariants.{StackHeap}
@@ -34,14 +34,14 @@ line_in (Some (Tick line)) = line
 line_in (Some (Call f line)) = line
 line_in _ = 0
 
--- the line of the text at which a call stands
+-- the line of the text for a call
 abbrev pub line_at : List Body → ℕ → ℕ → ℕ
 line_at bodies f place = line_in (seen bodies f place)
 
 abbrev pub active_at : List Body → ℕ → MachineCall → ActiveCall
 active_at bodies place c = record { function = c.function; slots = c.slots; line = line_at bodies c.function place }
 
--- a call that waits stands behind the call that it made
+-- a call that waits is after the call that it made
 abbrev pub waiting_call : List Body → MachineCall → ActiveCall
 waiting_call bodies c = active_at bodies (c.place - 1) c
 
@@ -55,7 +55,7 @@ told_end (Ended way kept) = whole.Ends way kept
 told_end (Faulted fault) = whole.Fails fault
 told_end Lost = whole.Lost
 
--- a halt without the machine, but for its active calls where it is cut
+-- a halt without the machine, except its active calls if it is cut
 abbrev pub told : List Body → Halt → Whole
 told bodies (Over e) = told_end e
 told bodies (AskAt id args m t) = whole.Asks id args
@@ -76,10 +76,10 @@ started None bodies f kept args ticks answers = Over Lost
 started (Some body) bodies f kept args ticks answers =
     started_with bodies f kept (first_slots body args) ticks answers
 
--- the run of a routine from its start: its arguments from first to last, so many ticks, these answers
+-- the run of a routine from its start: its arguments from first to last, a number of ticks, these answers
 abbrev pub run_of : List Body → ℕ → Kept → List Value → ℕ → List Reply → Halt
 run_of bodies f kept args ticks answers = started (slice_get bodies f) bodies f kept args ticks answers
 
--- what comes of it
+-- its result
 abbrev pub whole_of_bodies : List Body → ℕ → Kept → List Value → ℕ → List Reply → Whole
 whole_of_bodies bodies f kept args ticks answers = told bodies (run_of bodies f kept args ticks answers)

@@ -17,7 +17,8 @@ use lsl_value::{Kind, Value, Values, charge};
 /// What is wrong with frames.
 #[derive(Clone, Copy, Debug, PartialEq, Eq)]
 pub enum FrameFault {
-    /// the frame of this number, from 0, is the first that is not one of the unit's, or there is no frame, and it is 0
+    /// the frame of this number, from 0, is the first that isn't one of the unit's; or there is no frame, and the
+    /// number is 0
     Frame(u32),
     /// a charge above the limit
     Charge,
@@ -71,7 +72,7 @@ fn first_unfit(unit: &Woven, handler: u16, sack: &Sack) -> Option<u32>
     None
 }
 
-// Whether the frame that calls this function, or none, fits before so many outer ones.
+// Whether the frame that calls this function, or none, fits before the outer ones.
 fn fits(unit: &Woven, handler: u16, callee: Option<u16>, call: &Laid<'_>, outer: usize) -> bool
     ensures { (rest : List SavedCall) → length rest ≡ outer → IsTrue result ↔
         FitsFrame (points_of (map woven_body unit.now.functions)) handler callee (frame_laid call.now) rest }
@@ -118,7 +119,7 @@ fn spent(limit: u32, globals: &Values, sack: &Sack) -> Option<u64>
     Some(left)
 }
 
-// What is left without what this frame is charged, where it is enough.
+// What is left after this frame's charge, if it is enough.
 fn without_call(left: u64, call: &Laid<'_>) -> Option<u64>
     ensures { MatchOption result (left < frame_charge (frame_laid call.now))
         (λ rest. rest + frame_charge (frame_laid call.now) ≡ left) }
@@ -127,7 +128,7 @@ fn without_call(left: u64, call: &Laid<'_>) -> Option<u64>
     without(held, call.values)
 }
 
-// What is left without what these values are charged, where it is enough.
+// What is left after the charge of these values, if it is enough.
 fn without(left: u64, values: &[Value]) -> Option<u64>
     ensures { MatchOption result (left < charges_of values.now) (λ rest. rest + charges_of values.now ≡ left) }
 {

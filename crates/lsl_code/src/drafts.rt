@@ -58,7 +58,7 @@ impl Draft {
         Ok(())
     }
 
-    /// Adds a tick at this line. Want of memory also where there are 65,536 points.
+    /// Adds a tick at this line. Out of memory also where there are 65,536 points.
     pub fn push_tick(&mut self, line: u32) -> Result<(), NoMemory>
         ensures ok { OnOk result (self.new ≡ self.old ++ Tick line ∷ []) }
         ensures unchanged { OnErr result (self.new ≡ self.old) }
@@ -68,7 +68,7 @@ impl Draft {
         Ok(())
     }
 
-    /// Adds a call of this function at this line. Want of memory also where there are 65,536 points.
+    /// Adds a call of this function at this line. Out of memory also where there are 65,536 points.
     pub fn push_call(&mut self, function: u16, line: u32) -> Result<(), NoMemory>
         ensures ok { OnOk result (self.new ≡ self.old ++ Call function line ∷ []) }
         ensures unchanged { OnErr result (self.new ≡ self.old) }
@@ -79,8 +79,8 @@ impl Draft {
         Ok(())
     }
 
-    /// Leads the jump at this place to a target that wasn't known when it was added. Changes nothing where no jump of
-    /// plain code stands. Takes no memory.
+    /// Sets the target of the jump at this place, which wasn't known when the jump was added. Changes nothing if no
+    /// jump of plain code is there. Takes no memory.
     pub fn set_target(&mut self, place: usize, target: u32)
         ensures { self.new ≡ retargeted self.old place target }
     {
@@ -97,7 +97,7 @@ impl Draft {
     }
 }
 
-// The number of a point, where so many stand before it.
+// The number of a point after `n` others.
 fn number(n: usize) -> Result<u16, NoMemory>
     ensures { IfOk result (λ m. m ≡ n) }
 {
@@ -107,7 +107,7 @@ fn number(n: usize) -> Result<u16, NoMemory>
     }
 }
 
-// Leads the jump at this place to this target.
+// Sets the target of the jump at this place.
 fn retarget(code: &mut Vec<Instr>, place: usize, target: u32)
     ensures { code.new.items ≡ retargeted code.old.items place target }
 {
@@ -116,7 +116,7 @@ fn retarget(code: &mut Vec<Instr>, place: usize, target: u32)
     }
 }
 
-// Leads a jump to this target.
+// Sets the target of a jump.
 fn lead(instr: &mut Instr, target: u32)
     ensures { instr.new ≡ targeted instr.old target }
 {

@@ -1,4 +1,4 @@
-//! The kinds of the operands behind an instruction.
+//! The kinds of the operands after an instruction.
 
 ghost use Rattle.std.specs.Prelude.{◌≡◌, Some, IsTrue, is_some, OnOk, slice_get};
 ghost use Rattle.lsl_code.specs.Effects.{behind, called, loaded, operated, pushed};
@@ -12,8 +12,8 @@ use lsl_table::BuiltinRow;
 use lsl_text::NoMemory;
 use lsl_value::{BinaryOp, BuiltinId, Kind};
 
-/// Makes the kinds before an instruction those behind it, in a function with these slots that gives a value of this
-/// kind.
+/// Replaces the kinds before an instruction by those after it, in a function with these slots that gives a value of
+/// this kind.
 pub fn step(
     names: &Names,
     slots: &Sequence<Kind>,

@@ -26,8 +26,8 @@ struct Shapes {
     most: u32,
 }
 
-/// The function of this name with a draft and these slots, of which the first so many are parameters; it gives a value
-/// of this kind, or none. Want of memory also where a draft has 4,294,967,296 instructions.
+/// The function of this name with a draft and these slots, the first of which are parameters; it gives a value of this
+/// kind, or none. Out of memory also where a draft has 4,294,967,296 instructions.
 pub fn finish(
     alloc: Global,
     names: &Names,
@@ -58,7 +58,7 @@ pub fn finish(
     })
 }
 
-/// The count as a short one. Want of memory where it is none.
+/// The count in 32 bits. Out of memory if it doesn't fit.
 pub fn short_count(n: usize) -> Result<u32, NoMemory>
     ensures { IfOk result (λ m. m ≡ n) }
 {
@@ -91,8 +91,8 @@ fn shapes_of(
     })
 }
 
-// The pass, which is lent what is to be found, so that it owns nothing where memory runs out. It notes the kinds before
-// each instruction, and gives the greatest count of operands.
+// The pass, which borrows its results, so that it owns nothing when memory runs out. It notes the kinds before each
+// instruction, and returns the greatest count of operands.
 fn pass_over(
     alloc: Global,
     names: &Names,
@@ -149,7 +149,7 @@ fn add_point(
     }
 }
 
-// The map of a point at which so many operands are taken.
+// The map of a point at which a number of operands are taken.
 fn map_of(
     alloc: Global,
     slots: &Sequence<Kind>,

@@ -3,7 +3,7 @@
 ghost use Rattle.lsl_code.specs.FrameLaws.{FramesFit, FramesHaveCalls, StaysChained, TicksHaveFrames};
 
 /// Calls wait for one another, from the innermost to the handler's, and each step leaves them so. A machine of a unit
-/// that stands so at a tick, and in which all kinds are right, has frames, which fit.
+/// whose calls wait like this at a tick, and in which all kinds are right, has frames, which fit.
 pub fn ticks_have_frames()
     ensures chained { StaysChained }
     ensures frames { TicksHaveFrames }

@@ -14,8 +14,8 @@ pub struct Point {
 }
 
 /// A function's code. `slots` begins with the parameters, `most` is the greatest count of operands, `lines` has each
-/// point's line in the text, and `stacks` has, per instruction, the kinds of the operands that stand before it, from
-/// the first pushed.
+/// point's line in the text, and `stacks` has, per instruction, the kinds of the operands before it, from the first
+/// pushed.
 #[derive(Drop)]
 pub struct FunctionCode {
     pub name: Text,

@@ -29,21 +29,21 @@ pub enum Instr {
     Binary(BinaryOp),
     /// Pops, pushes the value as one of this kind.
     Cast(Kind),
-    /// Pops so many elements, the last one first, pushes their list.
+    /// Pops this many elements, the last one first, pushes their list.
     MakeList(u32),
-    /// Goes on at the place.
+    /// Continues at the place.
     Jump(u32),
-    /// Pops, goes on at the place where the value holds.
+    /// Pops, continues at the place if the value is true.
     JumpIf(u32),
-    /// Pops, goes on at the place where the value does not hold.
+    /// Pops, continues at the place if the value is false.
     JumpIfNot(u32),
     /// Pops the arguments of a pure call, the last one first, pushes its value.
     Pure(BuiltinId),
-    /// Pushes how much the script is charged.
+    /// Pushes the script's charge.
     Used,
-    /// Pushes how much more it may be charged.
+    /// Pushes how much more the script may be charged.
     Free,
-    /// Pops a number, has it as the script's limit where it may be, pushes whether it is.
+    /// Pops a number, makes it the script's limit if it may be, pushes whether it is.
     SetLimit,
     /// Pushes the script's limit.
     GetLimit,
@@ -61,23 +61,23 @@ pub enum Instr {
     GoState(u16),
     /// Ends the handler, which asks for a reset.
     Reset,
-    /// Goes on at the place where the machine is saving.
+    /// Continues at the place if the machine is saving.
     TestSave(u32),
-    /// Puts a slot before the values that the frame in hand has.
+    /// Puts a slot before the values of the current frame.
     KeepSlot(u16),
-    /// Pops, and puts the operand before the values that the frame in hand has.
+    /// Pops, and puts the operand before the values of the current frame.
     KeepTop,
-    /// Closes the frame in hand with this function and point, adds it to the saved ones, leaves the call.
+    /// Closes the current frame with this function and point, adds it to the saved ones, leaves the call.
     Seal(u16),
-    /// Goes on at the place where the machine is restoring.
+    /// Continues at the place if the machine is restoring.
     TestBack(u32),
-    /// Takes the outermost of the saved frames as the frame in hand.
+    /// Makes the outermost of the saved frames the current frame.
     Unpack,
     /// Moves the frame's next value to a slot.
     BackSlot(u16),
     /// Pushes the frame's next value.
     BackTop,
-    /// Goes on at the block of the frame's point.
+    /// Continues at the block of the frame's point.
     Branch,
     /// Enters a function while restoring, without arguments.
     Again(u16),

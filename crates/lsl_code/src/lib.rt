@@ -1,5 +1,5 @@
-//! Compiled code: instructions, functions, units that are well formed by their type, drafts of functions, and what a
-//! machine that runs them comes to (in `specs/`). Nothing here runs a unit.
+//! Compiled code: instructions, functions, units that are well formed by their type, drafts of functions, and the
+//! results of a machine that runs them (in `specs/`). Nothing here runs a unit.
 #![tactic(auto)]
 
 mod blocks;

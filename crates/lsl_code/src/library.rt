@@ -36,7 +36,7 @@ impl Library {
         }
     }
 
-    /// Adds a unit, whose number is the count of those before it.
+    /// Adds a unit. Its number is the count of those before it.
     pub fn add(&mut self, unit: Woven) -> Result<(), NoMemory>
         requires { Weaves unit }
         ensures ok { OnOk result (self.new ≡ self.old ++ unit ∷ []) }

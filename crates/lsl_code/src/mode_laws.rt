@@ -8,8 +8,8 @@ pub fn saving_has_one_result()
     ensures kept { SavingKeeps }
 {}
 
-/// Restoring frames ends with one machine at most, after one count of instructions, and with the globals, the limit
-/// and the answers that stood beside the frames.
+/// Restoring frames ends with one machine at most, after one count of instructions, and with the globals, the limit and
+/// the answers that were beside the frames.
 pub fn restoring_has_one_result()
     ensures one { OneRestoring }
     ensures kept { RestoringKeeps }

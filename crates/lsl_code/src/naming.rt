@@ -1,4 +1,4 @@
-//! What a reader is told of a woven unit.
+//! The names and lines of a woven unit, for a reader.
 
 ghost use Rattle.std.specs.Prelude.{◌≡◌, ◌<◌, length};
 ghost use Rattle.std.specs.Str.{encode_utf8_all};
@@ -25,8 +25,8 @@ impl Woven {
         self.states.as_slice()[usize::from(state)].name.as_str()
     }
 
-    /// The line of the script's text at which a call of the function stands at this point: that of a name at its entry,
-    /// of a loop or a jump at a tick, and of the called name at a call. Takes no memory.
+    /// The line of the script's text for a call of the function at this point: that of a name at its entry, of a loop
+    /// or a jump at a tick, and of the called name at a call. Takes no memory.
     pub fn line(&self, function: u16, point: u16) -> u32
         requires { HasPoint self.now.functions function point }
         ensures { result ≡ line_of self.now.functions function point }

@@ -11,14 +11,14 @@ use lsl_value::Value;
 use std::alloc::Global;
 use std::marker::Model;
 
-/// Saved calls, the innermost first, and behind them the values of one in hand.
+/// Saved calls, the innermost first, and after them the values of the current one.
 #[derive(Drop)]
 pub struct Pack {
     /// where the values of each call end
     pub(crate) marks: Vec<Mark>,
-    /// those of each call from the last, and then those in hand
+    /// those of each call from the last, and then the current ones
     pub(crate) values: Vec<Value>,
-    /// where those in hand begin
+    /// where the current ones begin
     pub(crate) start: usize,
 }
 
@@ -37,7 +37,7 @@ impl Model for Pack {
 }
 
 impl Pack {
-    /// No call, and no value in hand. Takes room for so many calls, and for so many values of all together.
+    /// No call, and no current value. Takes memory for `calls` calls, and for `values` values of all together.
     pub fn with_room(alloc: Global, calls: usize, values: usize) -> Result<Pack, NoMemory>
         ensures { IfOk result (λ pack. pack ≡ packed [] []) }
     {
@@ -48,7 +48,7 @@ impl Pack {
         })
     }
 
-    /// Puts the value before those in hand.
+    /// Puts the value before the current ones.
     #[inline(always)]
     pub fn keep(&mut self, value: Value) -> Result<(), NoMemory>
         ensures kept { OnOk result (self.new ≡ packed self.old.frames (value ∷ self.old.hand)) }
@@ -57,7 +57,7 @@ impl Pack {
         put(&mut self.values, value)
     }
 
-    /// Takes the first value in hand, if there is one. Takes no memory.
+    /// Takes the first current value, if there is one. Takes no memory.
     #[inline(always)]
     pub fn take(&mut self) -> Option<Value>
         ensures frames { self.new.frames ≡ self.old.frames }
@@ -70,7 +70,7 @@ impl Pack {
         self.values.pop()
     }
 
-    /// Closes the call in hand: it stands behind the others, with this function and this point.
+    /// Closes the current call: it follows the others, with this function and this point.
     #[inline(always)]
     pub fn seal(&mut self, function: u16, point: u16) -> Result<(), NoMemory>
         ensures sealed { OnOk result
@@ -88,7 +88,7 @@ impl Pack {
         Ok(())
     }
 
-    /// Takes the last call in hand, if there is one, and gives its point. Takes no memory.
+    /// Makes the last call the current one, if there is one, and returns its point. Takes no memory.
     #[inline(always)]
     pub fn unpack(&mut self) -> Option<u16>
         ensures { MatchOption result (self.old.frames ≡ []) (λ point. (frame : SavedCall) ×
@@ -101,7 +101,7 @@ impl Pack {
         Some(mark.point)
     }
 
-    /// Lets go what is in hand. Takes no memory.
+    /// Drops the current values. Takes no memory.
     #[inline(always)]
     pub(crate) fn clear(&mut self)
         ensures { self.new ≡ packed self.old.frames [] }
@@ -109,8 +109,7 @@ impl Pack {
         cut(&mut self.values, self.start);
     }
 
-    /// Adds a call behind the others, and lets go what is in hand. Its values move, and the room that they had is given
-    /// back.
+    /// Adds a call after the others, and drops the current values. Its values move, and their memory is freed.
     #[inline(always)]
     pub fn push(&mut self, frame: Frame) -> Result<Vec<Value>, NoMemory>
         ensures pushed { OnOk result (self.new ≡ packed (self.old.frames ++ frame ∷ []) []) }
@@ -134,7 +133,7 @@ pub(crate) fn end_of(marks: &[Mark]) -> usize
     }
 }
 
-// Only the first so many values stay.
+// Keeps only the first values.
 #[inline(always)]
 fn cut(values: &mut Vec<Value>, to: usize)
     ensures { values.new.items ≡ take to values.old.items }
@@ -144,7 +143,7 @@ fn cut(values: &mut Vec<Value>, to: usize)
     }
 }
 
-// Moves all values behind others, the last first.
+// Moves all values after others, the last first.
 #[inline(always)]
 fn pour(from: &mut Vec<Value>, to: &mut Vec<Value>) -> Result<(), NoMemory>
     ensures moved { OnOk result (to.new.items ≡ to.old.items ++ reverse from.old.items) }
@@ -168,7 +167,7 @@ fn put<T: Drop>(list: &mut Vec<T>, element: T) -> Result<(), NoMemory>
     Ok(())
 }
 
-// Room for one more.
+// Reserves for one more.
 #[inline(always)]
 fn make_room<T>(list: &mut Vec<T>) -> Result<(), NoMemory>
     ensures items { list.new.items ≡ list.old.items }

@@ -17,13 +17,13 @@ use std::marker::Model;
 pub struct Sack {
     /// the innermost call, unless there is none
     top: Option<Top>,
-    /// the calls around it, the outermost first, with the place behind the values of each
+    /// the calls around it, the outermost first, with the place after the values of each
     outer: Vec<Mark>,
     /// the values of all calls, the outermost call's first, each call's from the first on
     values: Vec<Value>,
 }
 
-/// The innermost call: its function, and the point at which it stands.
+/// The innermost call: its function and its point.
 #[derive(Clone, Copy)]
 pub(crate) struct Top {
     pub(crate) function: u16,
@@ -71,7 +71,7 @@ impl Sack {
         self.values
     }
 
-    /// The calls of this pack, without what is in hand. Takes no memory.
+    /// The calls of this pack, without the current values. Takes no memory.
     pub fn from_pack(mut pack: Pack) -> Sack
         ensures { result ≡ pack.frames }
     {

@@ -1,4 +1,4 @@
-//! The lists that code and world files are made of.
+//! The lists that code and world files consist of.
 
 ghost use Rattle.std.specs.Prelude.{◌≡◌, ◌==◌, ◌<◌, ◌↔◌, [], ◌∷◌, ◌++◌, length, take, slice_get, option_copied, option_to_list, IfOk, IsSome, OnOk, OnErr};
 
@@ -94,7 +94,7 @@ impl<T: Drop> Sequence<T> {
 }
 
 impl<T: Copy> Sequence<T> {
-    /// The first so many elements, or all where there are fewer.
+    /// The first `count` elements, or all if there are fewer.
     pub fn first(&self, alloc: Global, count: usize) -> Result<Sequence<T>, NoMemory>
         ensures { IfOk result (λ s. s ≡ take count self.now) }
     {

@@ -8,7 +8,7 @@ use crate::functions::{FunctionCode, StateCode};
 use crate::sequence::Sequence;
 use lsl_value::Values;
 
-/// A script's code: the digest of its text, the initial globals, its states, the first of which it begins in, and its
+/// A script's code: the digest of its text, the initial globals, its states, beginning with the first, and its
 /// functions. Every instruction finds the operands, slots, globals, functions, states and points that it needs.
 #[derive(Drop)]
 pub struct Unit {

@@ -7,9 +7,9 @@ use lsl_compact::PlacedStacks;
 use lsl_value::{Kind, Text};
 
 /// A function's code with code that saves and restores its calls. `running` has, per instruction, the kinds of the
-/// operands that stand before it, from the first pushed, while the machine runs, and none where it never stands before
-/// it then. The others are as in `FunctionCode`. While it saves and restores, the kinds follow from the code: `specs/`
-/// has them as `saving_of` and `restoring_of`.
+/// operands before it, from the first pushed, while the machine runs, and none where a running machine never is. The
+/// others are as in `FunctionCode`. While it saves and restores, the kinds follow from the code: `specs/` has them as
+/// `saving_of` and `restoring_of`.
 #[derive(Drop)]
 pub struct WovenCode {
     pub name: Text,

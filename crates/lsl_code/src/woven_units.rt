@@ -1,4 +1,4 @@
-//! Woven units: units whose code saves and restores its own calls.
+//! Woven units: units with code that saves and restores their own calls.
 
 ghost use Rattle.std.specs.Prelude.{◌≡◌, map, length, IsTrue, option_copied};
 ghost use Rattle.lsl_code.specs.Fits.{all_places};
@@ -13,11 +13,13 @@ use crate::fused_functions::FusedFunctions;
 use crate::sequence::Sequence;
 use lsl_value::{EventId, Values};
 
-/// A script's code as it is run: the digest of its text, the initial globals, its states, the first of which it begins
-/// in, and its functions. While it runs, every instruction finds the operands, slots, globals, functions, states and
-/// points that it needs. From each tick and each call the code saves the call there, with each slot and each waiting
-/// operand once, and from its start it restores a call at each point, each value to one of its kind. Which of two
-/// values of one kind goes where is the code's affair.
+/// A script's code as it is run: the digest of its text, the initial globals, its states, beginning with the first, and
+/// its functions.
+///
+/// While it runs, every instruction finds the operands, slots, globals, functions, states and points that it needs.
+/// From each tick and each call the code saves the call there, with each slot and each waiting operand once. From its
+/// start it restores a call at each point, each value to one of its kind. The code decides which of two values of one
+/// kind goes where.
 #[derive(Drop)]
 pub struct Woven {
     pub digest: [u8; 32],

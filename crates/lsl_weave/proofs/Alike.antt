@@ -1,5 +1,5 @@
--- A handler of woven code comes to what it comes to in the plain code, with the same active calls at the same lines
--- where it is cut.
+-- A handler of woven code has the result that it has in the plain code, with the same active calls at the same lines if
+-- it is cut.
 use Rattle.std.proofs.Common.{◌≡◌, ℕ, ◌+◌, ◌-◌, List, [], ◌∷◌, map, Option, Some, None, option_map, true, false, cond, refl, sym, ap, ap₂, ◌∙◌, arith, slice_get}
 use Rattle.std.proofs.lemmas.Option.{slice_get-map}
 use Rattle.lsl_value.specs.declared.tagged.Value.{Value}
@@ -24,7 +24,7 @@ use Rattle.lsl_weave.proofs.Placing.{laid}
 use Rattle.lsl_weave.proofs.Running.{past_still, runs_alike}
 use Rattle.lsl_weave.proofs.Saved.{woven_found}
 
--- the line of what stands at this place of a function
+-- the line of what is at this place of a function
 abbrev line_of : Option Body → ℕ → ℕ
 line_of o place = line_in (option_map (with_line (lines_in o)) (instruction_in o place))
 
@@ -85,7 +85,7 @@ module _ (bodies : List Body) where
   told_same (CutAt m) = ap Cut (calls_same m.calls)
 
   module _ (plain : Forward bodies) (woven : Forward (all_woven bodies)) (f : ℕ) (kept : Kept) where
-    -- a handler stands at the test before its first tick, and goes on to it
+    -- a handler is at the test before its first tick, and continues to it
     module _ (b : Body) (there : slice_get bodies f ≡ Some b) (slots : List Value) (t : ℕ) (answers : List Reply)
       where
         one_on : run (all_woven bodies) t (begun f kept slots answers)

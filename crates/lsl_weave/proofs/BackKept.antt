@@ -30,19 +30,19 @@ pub record OnBackWay (w : Body) (n : ℕ) (opened : Bool) (p : ℕ) (pt : Point)
   pub kinds_are : put_back way.puts (kinds_of values) (kinds_of c.slots) (kinds_of c.operands)
       ≡ Some (w.slots, waiting_kinds w.slots pt)
 
--- a frame is in hand, and these frames are left; or it still is the outermost of those that are left
+-- a frame is current, and these frames are left; or it still is the outermost of those that are left
 abbrev pub OnBack : Body → ℕ → List Frame → Option ℕ → MachineCall → ℕ → List Value → List Frame → Type 0
 OnBack w n left callee c point hand sack =
     ((pt : Point) × (sack ≡ left) × OnBackWay w n true point pt callee c hand)
     ⊎ ((fr : Frame) × (pt : Point) × (sack ≡ left ++ fr ∷ [])
     × OnBackWay w n false fr.point pt callee c fr.slots)
 
--- the call is at its tick, or behind its call of a function
+-- the call is at its tick, or after its call of a function
 abbrev pub BackEnds : List Body → MachineCall → Option ℕ → Type 0
 BackEnds bodies c None = (p : ℕ) × IsAt bodies c c.place None p
 BackEnds bodies c (Some g) = (k : ℕ) × (p : ℕ) × (c.place ≡ k + 1) × IsAt bodies c k (Some g) p
 
--- the act goes on along the way, or ends it with nothing in hand
+-- the act continues along the way, or ends it without a current value
 abbrev pub BackGoesOn : List Body → Body → ℕ → List Frame → Option ℕ → ℕ → List Value → List Frame → BackAct
     → Type 0
 BackGoesOn bodies w n left callee f hand sack (Moves c point' hand' sack') =

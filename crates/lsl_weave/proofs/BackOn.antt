@@ -51,7 +51,7 @@ lands_at_tick code p None l e = (refl, tick_here p (slice_get code l) e)
 lands_at_tick code p (Some f) l e = absurd cc
 
 module _ (bodies : List Body) (w : Body) (n : ℕ) (left : List Frame) (callee : Option ℕ) where
-  -- on at another place, with a frame in hand
+  -- continues at another place, with a current frame
   opened_at : (c : MachineCall) (point : ℕ) (pt : Point) (hand : List Value) (t : ℕ)
       (st : OnBackWay w (suc n) true point pt callee c hand) → backs w.code n point true t ≡ Some st.way
       → OnBack w n left callee (at_place c t c.operands) point hand left
@@ -198,7 +198,7 @@ module _ (bodies : List Body) (w : Body) (n : ℕ) (left : List Frame) (callee :
       (refl, x.0, refl, x.1, x.2)
   opened_on c point pt hand st found _ e = absurd (none-some st.way e)
 
-  -- each instruction of the way is there, and leads on along it
+  -- each instruction of the way is there, and continues along it
   pub back_goes_on : (c : MachineCall) (point : ℕ) (hand : List Value) (sack : List Frame)
       → slice_get bodies c.function ≡ Some w → OnBack w (suc n) left callee c point hand sack
       → BackGoesOn bodies w n left callee c.function hand sack
@@ -213,7 +213,7 @@ module _ (bodies : List Body) (w : Body) (n : ℕ) (left : List Frame) (callee :
       (closed_on c point hand o.0 o.1 o.3 (Some w) (slice_get w.code c.place) o.3.is_way))
       on
 
--- no instruction is no way
+-- without an instruction there is no way
 pub back_not_over : (w : Body) (left : List Frame) (callee : Option ℕ) (c : MachineCall) (point : ℕ)
     (hand : List Value) (sack : List Frame) → OnBack w 0 left callee c point hand sack → ⊥
 back_not_over w left callee c point hand sack on =

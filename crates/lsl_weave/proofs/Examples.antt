@@ -1,5 +1,5 @@
--- A function with a slot, which calls itself with an operand waiting: its code, woven by hand, and what saving and
--- restoring two of its calls come to.
+-- A function with a slot, which calls itself with an operand waiting: its code, woven by hand, and the results of
+-- saving and restoring two of its calls.
 use Rattle.std.proofs.Common.{◌≡◌, pos, List, [], ◌∷◌, Some, None, refl}
 use Rattle.lsl_value.specs.declared.tagged.Kind.TheVariants as kind
 use Rattle.lsl_value.specs.declared.tagged.Value.TheVariants as value
@@ -43,7 +43,7 @@ woven_by_hand : woven_code plain
     ∷ BackSlot 0 ∷ Awake ∷ Jump 1 ∷ BackSlot 0 ∷ BackTop ∷ Again 0 ∷ Jump 5 ∷ []
 woven_by_hand = refl
 
--- at the tick with 5 in its slot, called where 7 waits and 1 stands in the slot
+-- at the tick with 5 in its slot, called where 7 waits and the slot holds 1
 abbrev calls : List MachineCall
 calls = call_at 0 0 (value.Int (pos 5) ∷ []) [] ∷ call_at 0 3 (value.Int (pos 1) ∷ []) (value.Int (pos 7) ∷ []) ∷ []
 
@@ -79,7 +79,7 @@ bound_so : most_steps (frame_of 0 0 (value.Int (pos 4) ∷ value.Int (pos 2) ∷
     ∷ frame_of 1 3 (value.Int (pos 1) ∷ value.Int (pos 10) ∷ []) ∷ []) ≡ 52
 bound_so = refl
 
--- where the added code keeps two slots the other way round, they are saved so
+-- added code that keeps two slots the other way round saves them that way
 abbrev exchanged : Body
 exchanged = record {
   params = [];

@@ -1,4 +1,4 @@
--- What woven code does, told of machines of plain code and of where they stand in woven code.
+-- What woven code does, in terms of machines of plain code and of their places in woven code.
 use Rattle.std.specs.Prelude.{ℕ, ◌+◌, ◌≡◌, ◌≤◌, List}
 use Rattle.lsl_code.specs.declared.frames.Frame.{Frame}
 use Rattle.lsl_code.specs.Bodies.{Body}
@@ -28,8 +28,8 @@ RestoresTheMachine =
     → (n : ℕ) × (n ≤ most_steps frames)
     × BackRun (all_woven bodies) handler frames (beside_of m) (lift_machine bodies m) n
 
--- a run of woven code comes to what the run of the plain code comes to: the same ask, end or fault, or the
--- same machine where it is cut, with the same ticks left
+-- a run of woven code has the result of the run of the plain code: the same host call, end or fault, or the same
+-- machine if it is cut, with the same ticks left
 abbrev pub RunsAlike : Type 0
 RunsAlike =
     (bodies : List Body) → Forward bodies → (ticks : ℕ) (m : Machine) → OuterAreBehind bodies m.calls
@@ -47,7 +47,7 @@ FramesAreCharged =
     → HasFrames bodies handler m.calls frames
     → used_in m.calls m.kept ≡ parked_charge m.kept.globals frames
 
--- a machine that is cut, saved and restored goes on as if nothing had been
+-- a machine that is cut, saved and restored continues as if nothing had been
 abbrev pub GoesOn : Type 0
 GoesOn =
     (bodies : List Body) → Forward bodies → (handler ticks more : ℕ) (m at : Machine) (frames : List Frame)

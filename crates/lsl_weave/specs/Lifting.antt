@@ -1,4 +1,4 @@
--- Where a machine of plain code stands in woven code.
+-- Where a machine of plain code is in woven code.
 use Rattle.std.specs.Prelude.{ℕ, ◌+◌, ◌-◌, ◌≡◌, List, [], ◌∷◌, Option, Some, None, map, slice_get}
 use Rattle.lsl_code.specs.declared.instructions.Instr.TheVariants.{Call}
 use Rattle.lsl_code.specs.Bodies.{Body}
@@ -16,7 +16,7 @@ woven_place (Some b) k = shift b k
 abbrev pub lift_top : List Body → MachineCall → MachineCall
 lift_top bodies c = at_place c (woven_place (slice_get bodies c.function) c.place) c.operands
 
--- a call that waits stands directly behind its call, at the test there
+-- a call that waits is directly after its call, at the test there
 abbrev pub lift_waiting : List Body → MachineCall → MachineCall
 lift_waiting bodies c = at_place c (woven_place (slice_get bodies c.function) (c.place - 1) + 1) c.operands
 
@@ -28,13 +28,13 @@ lift bodies (c ∷ outer) = lift_top bodies c ∷ map (lift_waiting bodies) oute
 abbrev pub lift_machine : List Body → Machine → Machine
 lift_machine bodies m = record { kept = m.kept; calls = lift bodies m.calls; answers = m.answers }
 
--- and what a run of it comes to
+-- and the result of a run of it
 abbrev pub lift_halt : List Body → Halt → Halt
 lift_halt bodies (Over e) = Over e
 lift_halt bodies (AskAt id args m t) = AskAt id args (lift_machine bodies m) t
 lift_halt bodies (CutAt m) = CutAt (lift_machine bodies m)
 
--- the call stands directly behind a call of a function
+-- the call is directly after a call of a function
 abbrev pub IsBehindCall : List Body → MachineCall → Type 0
 IsBehindCall bodies c =
     (b : Body) × (k : ℕ) × (g : ℕ) × (p : ℕ) × (slice_get bodies c.function ≡ Some b) × (c.place ≡ k + 1)
@@ -49,7 +49,7 @@ abbrev pub OuterAreBehind : List Body → List MachineCall → Type 0
 OuterAreBehind bodies [] = Unit {0}
 OuterAreBehind bodies (c ∷ outer) = AreBehindCalls bodies outer
 
--- each point of the function stands at one place only
+-- each point of the function is at one place only
 abbrev pub IsOnePlaced : Body → Type 0
 IsOnePlaced b =
     (k p : ℕ) (callee : Option ℕ) → slice_get b.code k ≡ Some (point_instr callee p) → place_of p b.code ≡ k

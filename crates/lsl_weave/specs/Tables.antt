@@ -8,7 +8,7 @@ use Rattle.lsl_code.specs.Bodies.{Body, plain_body}
 use Rattle.lsl_weave.specs.declared.tables.Tables.{Tables}
 use Rattle.lsl_weave.specs.Layout.{offset, width, save_width, back_width, saves_from, backs_from, place_of}
 
--- the sums of the first 0, 1 .. n widths, from a start
+-- the sums of the first 0, 1, ..., n widths, from a start
 pub record IsTableTo {A : Type 0} (start : ℕ) (w : A → ℕ) (xs : List A) (n : ℕ) (table : List ℕ)
     (sum : ℕ) : Type 0 where
   pub long : length table ≡ n + 1
@@ -20,7 +20,7 @@ pub record IsTable {A : Type 0} (start : ℕ) (w : A → ℕ) (xs : List A) (tab
   pub long : length table ≡ length xs + 1
   pub at : (k : ℕ) → k ≤ length xs → slice_get table k ≡ Some (start + offset w xs k)
 
--- the width of a point's block, with what stands behind its slots and operands
+-- the width of a point's block, with what follows its slots and operands
 abbrev pub block_width : ℕ → ℕ → Point → ℕ
 block_width slots extra point = length point.kinds - slots + slots + extra
 
@@ -30,8 +30,7 @@ with_place places (Tick p) place = slice_set places p place
 with_place places (Call f p) place = slice_set places p place
 with_place places i place = places
 
--- where the plain instructions, the blocks that save and those that restore stand, and where each point
--- stands in plain code
+-- the places of the plain instructions, of the blocks that save and those that restore, and of each point in plain code
 pub record AreTables (b : Body) (shifts saves backs places : List ℕ) : Type 0 where
   pub shifts_are : IsTable 1 width b.code shifts
   pub saves_are : IsTable (saves_from b) (save_width b) b.points saves

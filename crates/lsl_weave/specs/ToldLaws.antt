@@ -1,4 +1,4 @@
--- The kinds that the functions of a woven unit tell are those of its machines while they save and restore.
+-- The kinds that the functions of a woven unit declare are those of its machines while they save and restore.
 use Rattle.std.specs.Prelude.{ℕ, ◌≡◌, List, [], ◌∷◌, Option, Some, true, false, map, reverse, slice_get}
 use Rattle.lsl_value.specs.declared.tagged.Kind.{Kind}
 use Rattle.lsl_value.specs.declared.tagged.Value.{Value}
@@ -18,14 +18,14 @@ use Rattle.lsl_code.specs.Woven.{is_woven}
 use Rattle.lsl_code.specs.WovenBodies.{woven_body}
 use Rattle.lsl_weave.specs.WovenCalls.{RestAtTick}
 
--- the operands of the innermost call have the kinds that its function tells there
+-- the operands of the innermost call have the kinds that its function declares there
 abbrev pub AreAsTold : (WovenCode → List (Option (List Kind))) → List WovenCode → List MachineCall → Type 0
 AreAsTold told functions [] = Unit {0}
 AreAsTold told functions (c ∷ outer) =
     (w : WovenCode) × (slice_get functions c.function ≡ Some w)
     × (slice_get (told w) c.place ≡ Some (Some (reverse (kinds_of c.operands))))
 
--- so it is at each step of saving a machine that rests at a tick
+-- this holds at each step of saving a machine that rests at a tick
 abbrev pub SavingIsTold : Type 0
 SavingIsTold =
     (globals : List Value) (states : List StateCode) (functions : List WovenCode)

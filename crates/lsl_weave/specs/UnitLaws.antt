@@ -56,7 +56,7 @@ UnitsMove =
     → (n : ℕ) × (n ≤ most_steps (frames_of bodies m.calls))
     × BackRun (all_woven bodies) handler (frames_of bodies m.calls) (beside_of m) (lift_machine bodies m) n
 
--- a run of its woven code comes to what the run of the plain code comes to
+-- a run of its woven code has the result of the run of the plain code
 abbrev pub UnitsRunAlike : Type 0
 UnitsRunAlike =
     (globals : List Value) (states : List StateCode) (bodies : List Body)
@@ -64,7 +64,7 @@ UnitsRunAlike =
     → (handler ticks : ℕ) (m : Machine) → IsChain bodies handler m.calls
     → run (all_woven bodies) ticks (lift_machine bodies m) ≡ lift_halt bodies (run bodies ticks m)
 
--- it goes back only behind ticks, so its runs are steps too, and more ticks and further answers change nothing in them
+-- it goes back only after ticks, so its runs are steps too, and more ticks and further answers change nothing in them
 abbrev pub UnitsGoForward : Type 0
 UnitsGoForward =
     (globals : List Value) (states : List StateCode) (bodies : List Body)
@@ -79,8 +79,8 @@ UnitsWeave =
     → all_places (λ f w. is_short w) 0 (all_woven bodies) ≡ true
     → DoesWeave (all_woven bodies)
 
--- a handler of it, from its start, comes to what it comes to in the plain code, with the same active calls at the
--- same lines where it is cut
+-- a handler of it, from its start, has the result that it has in the plain code, with the same active calls at the same
+-- lines if it is cut
 abbrev pub ComesToSame : List Body → List Body → Type 0
 ComesToSame woven plain =
     (f : ℕ) (kept : Kept) (args : List Value) (ticks : ℕ) (answers : List Reply)

@@ -21,7 +21,7 @@ woven_function f = record {
   running = woven_stacks (plain_body f);
 }
 
--- the unit is the same but for the code of its functions, which is woven
+-- the unit is the same except for the code of its functions, which is woven
 pub record IsWovenOf (unit : Code) (woven : Woven) : Type 0 where
   pub digest : woven.digest ≡ unit.digest
   pub globals : woven.globals ≡ unit.globals

@@ -1,4 +1,4 @@
--- What the test of woven units tells: saving and restoring never get stuck, whatever the code's order.
+-- What the test of woven units says: saving and restoring never get stuck, whatever the code's order.
 use Rattle.std.specs.Prelude.{ℕ, ◌*◌, ◌≡◌, ◌≤◌, List, length, true}
 use Rattle.lsl_value.specs.declared.tagged.Value.{Value}
 use Rattle.lsl_code.specs.declared.frames.Frame.{Frame}

@@ -13,7 +13,7 @@ use crate::tables::{Tables, waiting_of};
 use lsl_code::{FunctionCode, Instr, Point, Sequence};
 use lsl_text::NoMemory;
 
-/// Adds the plain instructions, with a test behind each tick and each call.
+/// Adds the plain instructions, with a test after each tick and each call.
 pub fn push_mains(
     code: &mut Sequence<Instr>,
     function: &FunctionCode,

@@ -13,7 +13,7 @@ pub fn frames_restored()
     ensures { RestoresTheMachine }
 {}
 
-/// While it runs, woven code has the asks, ticks, ends and faults of the plain code.
+/// While it runs, woven code has the host calls, ticks, ends and faults of the plain code.
 pub fn runs_alike()
     ensures run { RunsAlike }
     ensures on { GoesOn }

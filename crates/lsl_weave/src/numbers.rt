@@ -5,7 +5,7 @@ ghost use Rattle.std.specs.Prelude.{◌≡◌, ◌+◌, IfOk};
 use lsl_text::NoMemory;
 use std::alloc::AllocError;
 
-/// The sum as a place. Want of memory where it is none.
+/// The sum as a place. Out of memory if it doesn't fit.
 pub fn plus(place: u32, count: usize) -> Result<u32, NoMemory>
     ensures { IfOk result (λ n. n ≡ place + count) }
 {
@@ -15,7 +15,7 @@ pub fn plus(place: u32, count: usize) -> Result<u32, NoMemory>
     }
 }
 
-/// The number of a slot or a point. Want of memory where it is none.
+/// The number of a slot or a point. Out of memory if it doesn't fit.
 pub fn number(n: usize) -> Result<u16, NoMemory>
     ensures { IfOk result (λ m. m ≡ n) }
 {

@@ -12,7 +12,7 @@ use lsl_text::NoMemory;
 use std::alloc::Global;
 
 /// The kinds before the test at the start of a function with these stacks and this code, before each of its
-/// instructions and tests, and none for so many instructions behind them.
+/// instructions and tests, and none for the blocks after them.
 pub fn running_of(
     alloc: Global,
     stacks: KindStacks,

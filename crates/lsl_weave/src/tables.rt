@@ -1,4 +1,4 @@
-//! Where the instructions and the blocks of woven code will stand.
+//! The places of the instructions and the blocks of woven code.
 
 ghost use Rattle.std.specs.Prelude.{ℕ, ◌≡◌, ◌<◌, ◌≤◌, ◌+◌, ◌-◌, IfOk, Some, length, slice_get};
 ghost use Rattle.lsl_code.specs.Bodies.{plain_body};
@@ -21,7 +21,7 @@ pub struct Tables {
 }
 
 impl Tables {
-    /// Where a plain instruction of this place will stand.
+    /// The new place of the plain instruction at this place.
     pub fn shift(&self, function: &FunctionCode, place: usize) -> u32
         requires { TablesOf function.now self.now }
         ensures { result ≡ shift (plain_body function.now) place }
@@ -29,7 +29,7 @@ impl Tables {
         look(&self.shifts, place)
     }
 
-    /// Where the block that saves a point will stand.
+    /// The place of the block that saves a point.
     pub fn save_place(&self, function: &FunctionCode, point: usize) -> u32
         requires { TablesOf function.now self.now }
         ensures { result ≡ save_place (plain_body function.now) point }
@@ -45,7 +45,7 @@ impl Tables {
         look(&self.saves, function.points.len())
     }
 
-    /// Where the block that restores a point will stand.
+    /// The place of the block that restores a point.
     pub fn back_place(&self, function: &FunctionCode, point: usize) -> u32
         requires { TablesOf function.now self.now }
         ensures { result ≡ back_place (plain_body function.now) point }
@@ -53,7 +53,7 @@ impl Tables {
         look(&self.backs, point)
     }
 
-    /// Where a point's tick or call stands in plain code.
+    /// The place of a point's tick or call in plain code.
     pub fn point_place(&self, function: &FunctionCode, point: usize) -> usize
         requires tables { TablesOf function.now self.now }
         requires point { point < length function.now.points }
@@ -70,7 +70,7 @@ pub fn waiting_of(slots: usize, point: &Point) -> usize
     point.kinds.len().saturating_sub(slots)
 }
 
-/// The tables of a function. Want of memory also where its woven code is too long to be numbered.
+/// The tables of a function. Out of memory also where its woven code is too long to be numbered.
 pub fn tables_of(alloc: Global, function: &FunctionCode) -> Result<Tables, NoMemory>
     ensures { IfOk result (λ t. TablesOf function.now t) }
 {
@@ -92,7 +92,7 @@ pub fn tables_of(alloc: Global, function: &FunctionCode) -> Result<Tables, NoMem
     })
 }
 
-// How many instructions stand for one.
+// The number of woven instructions for one.
 fn width_of(instr: &Instr) -> usize
     ensures { result ≡ width instr.now }
 {

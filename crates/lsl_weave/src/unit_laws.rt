@@ -11,8 +11,8 @@ pub fn units_weave()
     ensures weaves { UnitsWeave }
 {}
 
-/// While it runs, it has the asks, ticks, ends and faults of the plain code, and goes back only behind ticks. A handler
-/// of it comes to what it comes to in the plain code. It has as many instructions that ask.
+/// While it runs, it has the host calls, ticks, ends and faults of the plain code, and goes back only after ticks. A
+/// handler of it has the result that it has in the plain code. It has as many instructions that make a host call.
 pub fn units_run_alike()
     ensures run { UnitsRunAlike }
     ensures forward { UnitsGoForward }

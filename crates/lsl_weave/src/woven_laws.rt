@@ -1,4 +1,4 @@
-//! Laws of woven units, whoever made them.
+//! Laws of woven units, from whatever source.
 
 ghost use Rattle.lsl_weave.specs.ToldLaws.{RestoringIsTold, SavingIsTold};
 ghost use Rattle.lsl_weave.specs.WovenLaws.{FramesAreTold, FramesHaveOneMachine, KindedMachinesRest, RestingCallsAreKinded, RestoredRest, SavedFramesFit, WeavingMakesWoven, WovenRestores, WovenSaves};
@@ -10,14 +10,14 @@ pub fn woven_units_save()
     ensures valid { SavedFramesFit }
 {}
 
-/// Restoring frames that fit never gets stuck: it ends with a machine at a tick whose calls have the kinds of
+/// Restoring frames that fit never gets stuck: it ends with a machine at a tick, with calls that have the kinds of
 /// their points.
 pub fn woven_units_restore()
     ensures ends { WovenRestores }
     ensures valid { RestoredRest }
 {}
 
-/// Machines of a woven unit at a tick, in which all kinds are right, are those whose calls rest at points.
+/// Machines of a woven unit at a tick, in which all kinds are right, are those with calls that rest at points.
 pub fn kinded_machines_rest()
     ensures rest { KindedMachinesRest }
     ensures kinded { RestingCallsAreKinded }
@@ -34,13 +34,14 @@ pub fn frames_have_one_machine()
     ensures frames { FramesAreTold }
 {}
 
-/// While a woven unit's machine saves, the operands of the innermost call have the kinds that its function tells there.
+/// While a woven unit's machine saves, the operands of the innermost call have the kinds that its function declares
+/// there.
 pub fn saving_is_told()
     ensures { SavingIsTold }
 {}
 
 /// While frames that fit are restored, up to the end, the operands of the innermost call have the kinds that its
-/// function tells there for restoring.
+/// function declares there for restoring.
 pub fn restoring_is_told()
     ensures { RestoringIsTold }
 {}

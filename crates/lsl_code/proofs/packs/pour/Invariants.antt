@@ -1,7 +1,7 @@
 use Rattle.std.proofs.Common.{◌≡◌, ◌≤◌, ◌++◌, length, reverse}
 use Rattle.lsl_code.proofs.packs.pour.Given as goal
 
--- what was moved stands behind the old ones, from the last
+-- what was moved follows the old ones, from the last
 abbrev pub invariant-loop-value : goal.invariant-loop-value
 invariant-loop-value l = record {
   moved : l.to.items ++ reverse l.from.items ≡ l.fn.to.items ++ reverse l.fn.from.items;
