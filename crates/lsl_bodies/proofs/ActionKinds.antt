@@ -32,7 +32,7 @@ use Rattle.lsl_bodies.proofs.LeavingKinds.{ActionIn, change_yields, returned_yie
 abbrev pub ActionsIn : Setting → Actions → Type 0
 ActionsIn c xs = AreKindedActions (scope_in c) xs
 
--- a statement has its kinds once the slots behind it are those that the routine's begin with
+-- a statement has its kinds once the slots after it are those that the routine's begin with
 abbrev AfterStmt : Setting → FrameView → Action × List Kind → Type 0
 AfterStmt c f r = IsPrefix f.slots r.1 × (HaveKinds c f.scope.variables → IsPrefix r.1 c.slots → ActionIn c r.0)
 

@@ -65,7 +65,7 @@ Extends-then f g h a b = record {
   first_label = b.first_label ∙ a.first_label;
 }
 
--- a verdict that is in order has parts in order
+-- the parts of a verdict in order are in order
 pub parts_ok : {A B : Type 0} (v : Verdict A) (q : A → Verdict B) (u : B) → (v >>= q) ≡ Ok u → (t : A)
     × (v ≡ Ok t) × (q t ≡ Ok u)
 parts_ok (Ok t) q u h = (t, refl, h)
@@ -147,7 +147,7 @@ frame_with names variables slots labels passed v l = record {
   first_label = l;
 }
 
--- behind a block there is what was before it, and its slots
+-- after a block there is what was before it, and its slots
 pub closed-opened : (f g : FrameView) (es : Items) (o : Outer) → IsOuter o f → Extends (opened f es) g
     → closed g o ≡ with_slots f g.slots
 closed-opened f g es o was e =
@@ -171,7 +171,7 @@ closed-opened f g es o was e =
 abbrev pub acted : Action → List Kind → Verdict (Action × List Kind)
 acted a slots = Ok (a, slots)
 
--- a block is in order where what stands in it is
+-- a block is in order if its items are
 pub block_ok : (known : KnownView) (home : Home) (f inner g : FrameView) (es : Items) (acts : Actions)
     (act : Action) (slots : List Kind) → inner ≡ opened f es
     → items_verdict known home inner es ≡ Ok (acts, g) → act ≡ action.Block acts → slots ≡ g.slots

@@ -29,7 +29,7 @@ use Rattle.lsl_bodies.proofs.LeavingShapes.{change_yields, returned_yields}
 abbrev AfterStmt : Setting → FrameView → Action × List Kind → Type 0
 AfterStmt c f r = IsSoundStatement c f r.0
 
--- an item of a block, where others stand before it
+-- an item of a block, with others before it
 abbrev AfterItem : Setting → FrameView → List (List ℕ) → List ℕ → FrameView → Action × FrameView → Type 0
 AfterItem c f own numbers g r = HasLabels f own (label_of r.0 numbers) r.1 × IsShapedAround c g r.0
 
@@ -159,7 +159,7 @@ module _ (c : Setting) where
           s.1,
         ))
 
--- where there are no labels around, a block has its shape if it has its kinds
+-- if there are no labels around, a block has its shape if it has its kinds
 pub body_shaped : (c : Setting) (f : FrameView) (es : Items) (r : Actions × FrameView) → f.labels ≡ []
     → items_verdict c.known c.home (opened f es) es ≡ Ok r → ActionsIn c r.0
     → IsShapedAction (outline_of (scope_in c)) [] (action.Block r.0)

@@ -18,7 +18,7 @@ use Rattle.lsl_bodies.specs.ActionForms.{effects_after, for_of}
 use Rattle.lsl_tree.proofs.ProgramRows.{action_of-Block, actions_of-append}
 use Rattle.lsl_bodies.proofs.Walks.{left, drop_all}
 
--- one more parameter
+-- the labels of some entries, after other names
 pub locals_next : (f : FrameView) (ps : List Param) (i : ℕ) (p : Param) (whole : FrameView) → i < length ps
     → p ≡ get_or ps i p
     → with_locals f (drop i ps) ≡ whole → with_locals (with_local f (spelled p.name) p.kind) (drop (i + 1) ps) ≡ whole
@@ -28,7 +28,6 @@ pub locals_end : (f : FrameView) (ps : List Param) (i : ℕ) (whole : FrameView)
     → with_locals f (drop i ps) ≡ whole → f ≡ whole
 locals_end f ps i whole h inv = sym (ap (with_locals f) (drop_all ps i h)) ∙ inv
 
--- the labels of some entries, behind other names
 abbrev pub labels_behind : List Item → List (List ℕ) → List (List ℕ)
 labels_behind [] names = names
 labels_behind (x ∷ xs) names = labels_behind xs (labels_with (item_of x) names)
@@ -62,7 +61,7 @@ pub effects_after-push : (acts : Actions) (xs : List Effect) (x : Effect)
 effects_after-push acts [] x = refl
 effects_after-push acts (y ∷ xs) x = effects_after-push (AndAction acts (action.Effect (effect_of y))) xs x
 
--- a `for` is its first effects, and behind them its loop
+-- a `for` is its first effects, and then its loop
 pub for_is : (v : Vec declared.Action Global) (acts : List declared.Action) (a : declared.Action)
     (xs : List effect.Effect) (loop : action.Action) → v.items ≡ acts ++ a ∷ []
     → actions_of acts ≡ effects_after NoAction xs → action_of a ≡ loop → action_of (variant.Block v) ≡ for_of xs loop

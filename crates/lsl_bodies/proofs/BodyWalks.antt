@@ -1,4 +1,4 @@
--- A body's parameters and block, and what is left of them behind it.
+-- A body's parameters and block, and what is left of them after it.
 use Rattle.std.proofs.Common.{◌≡◌, ℕ, ◌-◌, List, [], ◌∷◌, ◌++◌, length, take, drop, refl, sym, ap, ◌∙◌, subst, arith}
 use Rattle.std.proofs.Common.{append_assoc, append-nil}
 use Rattle.std.specs.Prelude.{Ok, Option}

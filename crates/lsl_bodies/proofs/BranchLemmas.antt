@@ -1,4 +1,4 @@
--- A statement with two branches whose second one is refused.
+-- A statement with two branches, the second of which is refused.
 use Rattle.std.proofs.Common.{◌≡◌, ◌∙◌, List, Ok, Err, ap, refl, sym}
 use Rattle.lsl_text.specs.declared.Refusal.{Refusal}
 use Rattle.lsl_text.specs.declared.Refusal.TheVariants.{NoMemory, Fault}
@@ -17,7 +17,7 @@ use Rattle.lsl_bodies.specs.Verdict.{Refuses}
 use Rattle.lsl_bodies.specs.ValueVerdicts.{value_verdict}
 use Rattle.lsl_bodies.specs.ActionVerdicts.{statement_verdict}
 
--- what the two branches are seen as is told by a view, of what they are known to be equal to
+-- a view of the two branches, given what they are known to be equal to
 pub otherwise_fails : {S : Type 0} (view : S → Stmt) (known : KnownView) (home : Home) (f g : FrameView)
     (span : Span) (e : Expr)
     (a b x y : S) (test : Node) (then : Action) (slots : List Kind) (r : Refusal TypeFault)

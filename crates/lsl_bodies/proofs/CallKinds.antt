@@ -113,7 +113,7 @@ module _ (c : Setting) where
           the_one_yields (builtin_called_of (spelled x)) (at UnknownName x.span)
           (builtin_known (builtin_of (spelled x)))
 
-  -- the arguments behind each other have the first parameters' kinds
+  -- the arguments after each other have the first parameters' kinds
   abbrev HaveParams : List Kind → Exprs → Nodes → Type 0
   HaveParams ps es ts = NodesFor c es ts × (stack_of ts ≡ reverse (take (size es) ps))
 

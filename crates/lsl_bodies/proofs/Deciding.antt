@@ -97,7 +97,6 @@ must_decides P fault false holds test = record {
   breaks = λ f h. ap Err (sym h.1);
 }
 
--- a test that is computed
 pub test_decides : (fault : TypeFault) (b : Bool) → Decides (must (b ≡ true) fault) (must_verdict b fault)
 test_decides fault b = must_decides (b ≡ true) fault b (λ h. h) (λ h. h)
 
@@ -130,6 +129,5 @@ each_decides rule q d s [] = gives_decides s
 each_decides rule q d s (x ∷ xs) = then_decides (rule s x) (λ n. each rule n xs) (q s x)
     (λ n. each_verdict q n xs) (d s x) (λ n. each_decides rule q d n xs)
 
--- a verdict that is the same
 pub decides_as : {T : Type 0} (J : Judgement T) (v w : Verdict T) → v ≡ w → Decides J w → Decides J v
 decides_as J v w e d = subst (λ x. Decides J x) (sym e) d

@@ -1,4 +1,4 @@
--- What tests of kinds tell of the kinds.
+-- What tests of kinds say about the kinds.
 use Rattle.std.proofs.Common.{◌≡◌, true, refl, sym, ap, ◌∙◌}
 use Rattle.std.specs.Prelude.{◌≢◌}
 use Rattle.lsl_value.specs.declared.tagged.Kind.{Kind}
@@ -6,7 +6,7 @@ use Rattle.lsl_value.specs.declared.tagged.Kind.TheVariants.{Int, Str, Key, List
 use Rattle.lsl_value.specs.OperatorRows.{casts_of, casts_implicitly_of}
 use Rattle.lsl_bodies.specs.Conversions.{Fit, Same, ByCast, Not, fit_of, is_int, is_no_list}
 
--- a value fits where it has the wanted kind, or where a cast stands that nobody wrote and it is no list
+-- a value fits if it has the wanted kind, or if there is an implicit cast and it isn't a list
 abbrev pub Fits : Fit → Kind → Kind → Type 0
 Fits Same found wanted = found ≡ wanted
 Fits ByCast found wanted = (casts_of found wanted ≡ true) × (casts_implicitly_of found wanted ≡ true) × (found ≢ ListKind)

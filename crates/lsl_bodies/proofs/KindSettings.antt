@@ -58,7 +58,7 @@ variable_has c s name v h e = go (nearest name s.names) e
     go None g = absurd (cc)
     go (Some n) g = h n v g
 
--- a local variable behind the others
+-- a local variable after the others
 pub local_has : (c : Setting) (f : FrameView) (name : List ℕ) (k : Kind) → HaveKinds c f.scope.variables
     → IsPrefix (f.slots ++ k ∷ []) c.slots
     → HaveKinds c (with_local f name k).scope.variables

@@ -12,7 +12,7 @@ use Rattle.lsl_bodies.proofs.NameLemmas.{Contains-tail, Contains-cases}
 use Rattle.lsl_bodies.proofs.ActionLemmas.{is_since-of}
 use Rattle.lsl_bodies.proofs.ListLemmas.{AreApart, apart_append}
 
--- the nearest of a name is the first, or one behind it
+-- the nearest of a name is the first, or one after it
 here : (name x : List ℕ) (xs : List (List ℕ)) → bytes_eq x name ≡ true → nearest name (x ∷ xs) ≡ Some (length xs)
 here name x xs h = ap (λ b. cond b (Some (length xs)) (nearest name xs)) h
 
@@ -34,7 +34,7 @@ nearest_append name (x ∷ xs) ys n h = go (bytes_eq x name) refl (nearest_appen
       | inr k ↦ inr k
     ]
 
--- a name of the first list has a number behind those of the second
+-- a name of the first list has a number after those of the second
 nearest_above : (name : List ℕ) (xs ys : List (List ℕ)) (n : ℕ) → Contains xs name
     → nearest name (xs ++ ys) ≡ Some n → length ys ≤ n
 nearest_above name [] ys n c h = absurd (Contains-none name c)
@@ -75,7 +75,7 @@ one_name a b (x ∷ xs) n h k = go (bytes_eq x a) (bytes_eq x b) refl refl (one_
     go false true e f rest = absurd (apart b a f e k h)
     go false false e f rest = rest (below a e h) (below b f k)
 
--- a label that wasn't passed in its block is none of those before it
+-- a label that wasn't passed in its block isn't one of those before it
 not_passed : (name : List ℕ) (xs older passed : List (List ℕ)) (first : ℕ) → passed ≡ xs ++ older
     → first ≡ length older → not (is_since passed first name) ≡ true → Contains xs name → ⊥
 not_passed name xs older passed first split start fresh c = go (nearest name (xs ++ older)) refl
@@ -92,7 +92,7 @@ not_passed name xs older passed first split start fresh c = go (nearest name (xs
         let no : not true ≡ true = sym (ap not since) ∙ fresh in
         absurd (cc)
 
--- behind a part of a block with labels of these names and numbers
+-- after a part of a block with labels of these names and numbers
 pub record HasLabels (f : FrameView) (own : List (List ℕ)) (numbers : List ℕ) (g : FrameView) : Type 0 where
   pub labels : g.labels ≡ f.labels
   pub passed : g.passed ≡ own ++ f.passed
@@ -111,7 +111,7 @@ labels_none f = record {
   apart = tt;
 }
 
--- and behind what has no label
+-- and after what has no label
 pub labels_kept : (f : FrameView) (own : List (List ℕ)) (numbers : List ℕ) (g h : FrameView) → HasLabels f own numbers g
     → h.labels ≡ g.labels → h.passed ≡ g.passed → h.first_label ≡ g.first_label
     → HasLabels f own numbers h

@@ -32,7 +32,7 @@ use Rattle.lsl_bodies.proofs.ActionKinds.{ActionsIn}
 abbrev pub Sketch : Setting → Outline
 Sketch c = outline_of (scope_in c)
 
--- it is no label
+-- it isn't a label
 abbrev pub IsNoLabel : Action → Type 0
 IsNoLabel a = (numbers : List ℕ) → label_of a numbers ≡ numbers
 

@@ -1,4 +1,4 @@
--- Lists in which nothing stands twice.
+-- Lists without repetition.
 use Rattle.std.proofs.Common.{List, [], ◌∷◌, ◌++◌, map, sym, inl, inr, subst, arith}
 use Rattle.std.specs.Prelude.{◌≢◌, Contains, All}
 use Rattle.std.specs.List.{AllPairs}

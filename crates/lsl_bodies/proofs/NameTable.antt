@@ -35,7 +35,7 @@ length_rows texts (e ∷ es) rows =
 pub length-names_of : (texts : List (List ℕ)) (es : List Entry) → length (names_of texts es) ≡ length es
 length-names_of texts es = omega (arith, length_rows texts es [])
 
--- places behind the first ones change nothing for entries that have those
+-- places after the first ones change nothing for entries that have those
 rows_grown : (texts more : List (List ℕ)) (es : List Entry) (rows : List (List ℕ × Option ℕ))
     → Placed (length texts) es → rows_behind (texts ++ more) es rows ≡ rows_behind texts es rows
 rows_grown texts more [] rows h = refl

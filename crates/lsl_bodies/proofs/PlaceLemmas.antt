@@ -1,4 +1,4 @@
--- What becomes of the places of names as one is noted.
+-- The effect on the places of names as one is noted.
 use Rattle.std.proofs.Common.{◌≡◌, ℕ, Option, Some, None, List, [], ◌∷◌, ◌++◌, map, length, slice_get, refl, sym, ap}
 use Rattle.std.proofs.Common.{◌∙◌, subst, arith}
 use Rattle.std.specs.Prelude.{String}
@@ -69,7 +69,7 @@ module _ {S : Type 0} where
       (bytes_eq-Decides name (string_bytes k)).0
       (lookup_key_passes (λ q. bytes_eq name (string_bytes q)) m.entries k (sym h))
 
-  -- a new name stands last
+  -- a new name comes last
   pub new_texts : (m n : HashMap (String Global) (Option ℕ) S) (k : String Global) (v : Option ℕ)
       → get string_eq m k ≡ None → n.entries ≡ insert_entry string_eq m.entries k v
       → texts_of n ≡ texts_of m ++ string_bytes k ∷ []

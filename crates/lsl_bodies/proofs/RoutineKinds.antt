@@ -87,7 +87,7 @@ GlobalsHave known globals s =
 
 module _ (known : KnownView) (globals : List Kind) (s : ScopeView) (seen : GlobalsHave known globals s)
     (home : Home) where
-  -- the routine of a body that stands for this
+  -- the routine of a body with this meaning
   abbrev made : ℕ → List Param → Actions × FrameView → Routine
   made line params inner = record {
     line = line;

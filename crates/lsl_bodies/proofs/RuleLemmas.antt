@@ -54,7 +54,7 @@ use Rattle.lsl_bodies.proofs.Deciding.{entry_decides, decides_as}
 use Rattle.lsl_bodies.proofs.NameLemmas.{nearest_is, is_nearest}
 use Rattle.lsl_bodies.proofs.TableLemmas.{constant_of-some, constant_of-named, builtin_of-some, builtin_of-named}
 
--- a variable is found exactly where the name stands for it
+-- a variable is found exactly if the name refers to it
 pub variable_of-some : (s : ScopeView) (name : List ℕ) (v : VariableOf) → variable_of s name ≡ Some v
     → IsVariable s name v
 variable_of-some s name v h = go (nearest name s.names) refl h
@@ -69,7 +69,7 @@ pub is_variable-of : (s : ScopeView) (name : List ℕ) (v : VariableOf) → IsVa
 is_variable-of s name v h = ap (λ (o : Option ℕ). option_and_then (slice_get s.variables) o)
     (is_nearest name s.names h.0 h.1) ∙ h.2
 
--- what a name stands for
+-- what a name refers to
 abbrev target_option : Option VariableOf → Option ConstantId → Option Target
 target_option (Some v) k = Some (Kept v)
 target_option None k = constant_target k

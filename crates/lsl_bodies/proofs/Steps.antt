@@ -12,7 +12,7 @@ pub fails_first : {A B : Type 0} (e : Refusal TypeFault) (v : Verdict A) (q : A 
 fails_first NoMemory v q h = tt
 fails_first (Fault f) v q h = ap (λ w. w >>= q) h
 
--- the first part is in order, and what comes behind it has a fault
+-- the first part is in order, and what follows it has a fault
 pub fails_behind : {A B : Type 0} (e : Refusal TypeFault) (v : Verdict A) (t : A) (q : A → Verdict B) → v ≡ Ok t
     → Refuses e (q t) → Refuses e (v >>= q)
 fails_behind e v t q h g = subst (λ w. Refuses e (w >>= q)) (sym h) g

@@ -1,4 +1,4 @@
--- What variables and constants stand for has its kind.
+-- What variables and constants refer to has its kind.
 use Rattle.std.proofs.Common.{◌≡◌, Bool, true, false, Option, Some, None, refl, ap, ◌∙◌, subst}
 use Rattle.lsl_value.specs.declared.tagged.Kind.TheVariants.{Int}
 use Rattle.lsl_tree.specs.declared.expression.Name.{Name}

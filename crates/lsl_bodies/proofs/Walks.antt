@@ -37,7 +37,7 @@ pub left : {X : Type 0} (xs : List X) (i : ℕ) (x : X) → i < length xs → x 
 left xs i x h e = drop-cons xs i x h ∙ (ap (λ y. y ∷ drop (suc i) xs) (sym e)
     ∙ ap (λ n. x ∷ drop n xs) (sym (add-one i)))
 
--- a walk that is in the middle
+-- a walk in the middle
 pub each_next : {X S : Type 0} (q : S → X → Verdict S) (s n : S) (xs : List X) (i : ℕ) (x : X) (whole : Verdict S)
     → i < length xs → x ≡ get_or xs i x → q s x ≡ Ok n → each_verdict q s (drop i xs) ≡ whole
     → each_verdict q n (drop (i + 1) xs) ≡ whole

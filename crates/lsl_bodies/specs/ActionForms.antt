@@ -8,12 +8,12 @@ use Rattle.lsl_bodies.specs.declared.frame.Home.{Home}
 use Rattle.lsl_bodies.specs.declared.frame.Home.TheVariants.{Handler, Function}
 use Rattle.lsl_bodies.specs.Conversions.{empty_node}
 
--- the kind that is returned, if any is
+-- the kind of the returned value, if there is one
 abbrev pub home_kind : Home → Option Kind
 home_kind Handler = None
 home_kind (Function kind) = kind
 
--- these effects behind other statements
+-- these effects after other statements
 abbrev pub effects_after : Actions → List Effect → Actions
 effects_after acts [] = acts
 effects_after acts (x ∷ xs) = effects_after (AndAction acts (action.Effect x)) xs

@@ -1,4 +1,4 @@
--- What statements stand for, and their first faults.
+-- The meaning of statements, and their first faults.
 use Rattle.std.specs.Prelude.{◌≡◌, ℕ, ◌+◌, Option, Some, None, List, [], length}
 use Rattle.lsl_text.specs.declared.Span.{Span}
 use Rattle.lsl_value.specs.declared.tagged.Kind.{Kind}
@@ -30,7 +30,7 @@ use Rattle.lsl_bodies.specs.ActionForms.{for_of, home_kind}
 abbrev pub label : FrameView → Name → Judgement ℕ
 label f x = the_one (IsNearest (spelled x) f.labels) (at UnknownLabel x.span)
 
--- the states behind `default` have the numbers from 1
+-- the states after `default` have the numbers from 1
 abbrev pub IsState : KnownView → Name → ℕ → Type 0
 IsState known x number = (before : ℕ) × IsNearest (spelled x) known.states before × (number ≡ before + 1)
 
@@ -71,7 +71,7 @@ returned known home s span (Some e) = do
 abbrev pub IsFresh : FrameView → Name → Type 0
 IsFresh f x = (IsReserved (spelled x) → ⊥) × (IsSince f.scope.names f.first_variable (spelled x) → ⊥)
 
--- a declaration, whose variable isn't visible in its own value
+-- a declaration, with a variable that isn't visible in its own value
 abbrev pub initialised : KnownView → FrameView → Kind → Name → Option Expr → Judgement Node
 initialised known f k x None = do
   fresh ← must (IsFresh f x) (at DoubleName x.span)
@@ -93,7 +93,7 @@ labelled f x = do
   gives (action.Label number, with_passed f (spelled x))
 
 abbrev mutual
-  -- a statement, and the slots behind it
+  -- a statement, and the slots after it
   pub statement : KnownView → Home → FrameView → Stmt → Judgement (Action × List Kind)
   statement known home f (stmt.Block es) = do
     inner ← items known home (opened f es) es
@@ -135,7 +135,7 @@ abbrev mutual
     act ← change known home span name
     gives (act, f.slots)
 
-  -- what stands in a block, and what is visible behind it
+  -- the items of a block, and what is visible after it
   pub items : KnownView → Home → FrameView → Items → Judgement (Actions × FrameView)
   items known home f NoItem = gives (NoAction, f)
   items known home f (AndItem es e) = do

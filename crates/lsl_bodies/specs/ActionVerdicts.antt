@@ -1,4 +1,4 @@
--- What statements stand for, and their first faults, as functions.
+-- The meaning of statements, and their first faults, as functions.
 use Rattle.std.specs.Prelude.{ℕ, ◌+◌, Option, Some, None, Bool, not, ◌||◌, List, [], length, Ok, Err}
 use Rattle.lsl_text.specs.declared.Span.{Span}
 use Rattle.lsl_value.specs.declared.tagged.Kind.{Kind}

@@ -15,7 +15,7 @@ pub record IsOuter (o : Outer) (f : FrameView) : Type 0 where
 abbrev pub earliest : {X : Type 0} → ℕ → List X → List X
 earliest n xs = drop (length xs - n) xs
 
--- only so much is left
+-- only this much is left
 abbrev pub closed : FrameView → Outer → FrameView
 closed f o = record {
   scope = record { names = earliest o.names f.scope.names; variables = take o.variables f.scope.variables };

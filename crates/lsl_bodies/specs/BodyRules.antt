@@ -1,4 +1,4 @@
--- What a body stands for, and its first fault.
+-- The meaning of a body, and its first fault.
 use Rattle.std.specs.Prelude.{Option, List, length}
 use Rattle.lsl_value.specs.declared.tagged.Kind.{Kind}
 use Rattle.lsl_tree.specs.declared.expression.Name.{Name}

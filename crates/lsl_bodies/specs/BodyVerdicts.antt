@@ -1,4 +1,4 @@
--- What a body stands for, or its first fault, as a function.
+-- The meaning of a body, or its first fault, as a function.
 use Rattle.std.specs.Prelude.{Option, List, length, Ok}
 use Rattle.lsl_value.specs.declared.tagged.Kind.{Kind}
 use Rattle.lsl_tree.specs.declared.expression.Name.{Name}

@@ -37,14 +37,14 @@ arguments params (AndExpr es e) (AndNode ts t) = do
 abbrev pub counted : Calling → Nodes → Name → Judgement (Unit {0})
 counted c ts x = must (argument_count ts ≡ length c.signature.params) (at WrongCount x.span)
 
--- a call with arguments, whose names and kinds are in order
+-- a call with arguments, with names and kinds in order
 abbrev pub effect_of_call : Calling → ℕ → Nodes → Effect
 effect_of_call c line ts = effect_of_result c.signature.result c line ts where
   effect_of_result : Option Kind → Calling → ℕ → Nodes → Effect
   effect_of_result None c line ts = effect.Call c.callee line ts
   effect_of_result (Some k) c line ts = effect.Value (node.Call c.callee k line ts)
 
--- a call whose value is needed
+-- a call that must have a value
 abbrev pub call_value : Calling → Name → Exprs → Nodes → Judgement Node
 call_value c x es ts = do
   count ← counted c ts x

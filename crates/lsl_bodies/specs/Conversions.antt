@@ -15,7 +15,7 @@ use Rattle.lsl_tree.specs.Program as program
 use Rattle.lsl_tree.specs.Program.{Initial}
 use Rattle.lsl_tree.specs.Initials.{initial_kind_of}
 
--- a value of the first kind where the second is wanted: as it is, by the cast that nobody has to write, or not at all
+-- a value of the first kind where the second is wanted: as it is, by an implicit cast, or not at all
 pub data Fit : Type 0 where
   Same : Fit
   ByCast : Fit

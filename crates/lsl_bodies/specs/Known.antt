@@ -24,7 +24,7 @@ abbrev pub known_of : Known → KnownView
 known_of k =
     record { functions = k.functions; signatures = map known_signature_of k.signatures.items; states = k.states }
 
--- what a called name stands for, and how it is called
+-- what a called name refers to, and how it is called
 pub record Calling : Type 0 where
   pub callee : Callee
   pub signature : Signature
@@ -32,7 +32,7 @@ pub record Calling : Type 0 where
 abbrev pub IsFunction : KnownView → List ℕ → ℕ → Signature → Type 0
 IsFunction k name number s = IsNearest name k.functions number × (slice_get k.signatures number ≡ Some s)
 
--- a function of the script, or else a built-in call
+-- a function of the script, or otherwise a built-in call
 abbrev pub IsCallable : KnownView → List ℕ → Calling → Type 0
 IsCallable k name c =
     ((number : ℕ) × IsFunction k name number c.signature × (c.callee ≡ Function number))

@@ -1,4 +1,4 @@
--- What is visible where a statement stands.
+-- What is visible at a statement.
 use Rattle.std.specs.Prelude.{◌≡◌, ℕ, ◌≤◌, Option, Some, None, Bool, false, nat_le, List, [], ◌∷◌, ◌++◌, length}
 use Rattle.std.specs.Prelude.{slice_get}
 use Rattle.std.specs.Option.{option_and_then}
@@ -24,8 +24,7 @@ pub record ScopeView : Type 0 where
   pub variables : List Variable
 
 -- what is visible at a place, and what its function has so far: the kinds of its slots, the labels of the blocks
--- around, the latest first, those of them that stand before the place, and the numbers of the block's first variable
--- and label
+-- around, the latest first, those of them before the place, and the numbers of the block's first variable and label
 pub record FrameView : Type 0 where
   pub scope : ScopeView
   pub slots : List Kind
@@ -47,14 +46,14 @@ frame_of f = record {
   first_label = f.first_label;
 }
 
--- the variable that a name stands for is the nearest of that name
+-- the variable that a name refers to is the nearest of that name
 abbrev pub IsVariable : ScopeView → List ℕ → Variable → Type 0
 IsVariable s name v = (number : ℕ) × IsNearest name s.names number × (slice_get s.variables number ≡ Some v)
 
 abbrev pub variable_of : ScopeView → List ℕ → Option Variable
 variable_of s name = option_and_then (slice_get s.variables) (nearest name s.names)
 
--- the nearest of this name is none before this number
+-- the nearest of this name isn't before this number
 abbrev pub IsSince : List (List ℕ) → ℕ → List ℕ → Type 0
 IsSince names first name = (number : ℕ) × IsNearest name names number × (first ≤ number)
 
@@ -65,11 +64,11 @@ is_since_number first (Some number) = nat_le first number
 abbrev pub is_since : List (List ℕ) → ℕ → List ℕ → Bool
 is_since names first name = is_since_number first (nearest name names)
 
--- a variable behind the others
+-- a variable after the others
 abbrev pub declared : ScopeView → List ℕ → Variable → ScopeView
 declared s name v = record { names = name ∷ s.names; variables = s.variables ++ v ∷ [] }
 
--- a local variable behind the others, with the next slot
+-- a local variable after the others, with the next slot
 abbrev pub with_local : FrameView → List ℕ → Kind → FrameView
 with_local f name k = record f {
   scope = declared f.scope name (record { place = Slot (length f.slots); kind = k });
@@ -86,7 +85,7 @@ with_slots f slots = record f { slots = slots }
 abbrev pub with_passed : FrameView → List ℕ → FrameView
 with_passed f name = record f { passed = name ∷ f.passed }
 
--- the labels that stand directly in a block, the last first
+-- the labels directly in a block, the last first
 abbrev pub labels_with : Item → List (List ℕ) → List (List ℕ)
 labels_with (stmt.Declaration k x v) names = names
 labels_with (stmt.Label x) names = spelled x ∷ names

@@ -1,4 +1,4 @@
--- Where the first token of a value stands.
+-- The place of a value's first token.
 use Rattle.lsl_text.specs.declared.Span.{Span}
 use Rattle.lsl_tree.specs.declared.script.Atom.{Atom}
 use Rattle.lsl_tree.specs.declared.script.Atom.TheVariants as atom

@@ -1,4 +1,4 @@
--- What a name stands for where no call is meant.
+-- What a name refers to where no call is meant.
 use Rattle.std.specs.Prelude.{pos}
 use Rattle.lsl_value.specs.declared.tagged.Kind.TheVariants.{Int}
 use Rattle.lsl_tree.specs.declared.expression.StepOp.{StepOp}

@@ -1,4 +1,4 @@
--- What expressions stand for, and their first faults.
+-- The meaning of expressions, and their first faults.
 use Rattle.std.specs.Prelude.{◌≡◌, Some, None, true, List, [], ◌∷◌, ◌++◌}
 use Rattle.lsl_text.specs.declared.Span.{Span}
 use Rattle.lsl_value.specs.declared.operators.UnaryOp.{UnaryOp}
@@ -49,7 +49,7 @@ check_list es ts = do
   gives (node.ListLiteral ts)
 
 abbrev mutual
-  -- an expression whose value is needed
+  -- an expression that must have a value
   pub value : KnownView → ScopeView → Expr → Judgement Node
   value known s (expr.Int n span) = gives (node.Int n)
   value known s (expr.Str text span) = gives (node.Str text)
@@ -86,7 +86,7 @@ abbrev mutual
     last ← value known s e
     gives (AndNode before last)
 
--- an expression that stands as a statement: it need not have a value
+-- an expression used as a statement: it need not have a value
 abbrev pub effect : KnownView → ScopeView → Expr → Judgement Effect
 effect known s (expr.Parens span e) = effect known s e
 effect known s (expr.Call x es) = do

@@ -1,4 +1,4 @@
--- What expressions stand for, and their first faults, as functions.
+-- The meaning of expressions, and their first faults, as functions.
 use Rattle.std.specs.Prelude.{Some, None, List, [], ◌∷◌, ◌++◌}
 use Rattle.lsl_text.specs.declared.Span.{Span}
 use Rattle.lsl_value.specs.declared.operators.UnaryOp.{UnaryOp}

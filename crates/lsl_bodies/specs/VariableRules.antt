@@ -1,4 +1,4 @@
--- What variables and constants stand for, and what is assigned to them.
+-- The meaning of variables and constants, and what is assigned to them.
 use Rattle.std.specs.Prelude.{◌≡◌, Option, Some, None}
 use Rattle.lsl_text.specs.declared.Span.{Span}
 use Rattle.lsl_value.specs.declared.operators.BinaryOp.{BinaryOp}
@@ -21,7 +21,7 @@ use Rattle.lsl_bodies.specs.declared.frame.Target.{Target}
 use Rattle.lsl_bodies.specs.declared.frame.Target.TheVariants.{Kept, Fixed}
 use Rattle.lsl_bodies.specs.Targets.{read_of, steps_of}
 
--- what a name stands for where no call is meant: the nearest variable of the name, else the constant
+-- what a name refers to where no call is meant: the nearest variable of the name, otherwise the constant
 abbrev pub IsTarget : ScopeView → Name → Target → Type 0
 IsTarget s x (Kept v) = IsVariable s (spelled x) v
 IsTarget s x (Fixed id) = ((v : VariableOf) → IsVariable s (spelled x) v → ⊥) × IsConstant (spelled x) id
@@ -60,7 +60,7 @@ assigned None v t sign first = do
   gives (node.Assign v.place v.kind cast)
 assigned (Some op) v t sign first = compound op v t sign
 
--- an assignment to what a name stands for
+-- an assignment to a name's target
 abbrev pub stored : Target → Name → AssignOp → Span → Node → Span → Judgement Node
 stored t x op span right first = do
   v ← variable t x

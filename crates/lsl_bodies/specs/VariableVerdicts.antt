@@ -1,4 +1,4 @@
--- What variables and constants stand for, and what is assigned to them, as functions.
+-- The meaning of variables and constants, and what is assigned to them, as functions.
 use Rattle.std.specs.Prelude.{Option, Some, None, Bool, true, false}
 use Rattle.lsl_text.specs.declared.Span.{Span}
 use Rattle.lsl_value.specs.declared.operators.BinaryOp.{BinaryOp}

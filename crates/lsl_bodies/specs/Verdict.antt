@@ -1,4 +1,4 @@
--- Rules as functions, whose value is what a part stands for, or its first fault.
+-- Rules as functions, with the meaning of a part, or its first fault, as their value.
 use Rattle.std.specs.Prelude.{Option, Some, None, Bool, true, false, List, [], ◌∷◌, Result, Ok, Err}
 use Rattle.lsl_text.specs.declared.Refusal.{Refusal}
 use Rattle.lsl_text.specs.declared.Refusal.TheVariants as refusal

@@ -19,7 +19,7 @@ use lsl_tree::{AssignOp, Expr, Name, Node};
 use lsl_value::{BinaryOp, Kind};
 use std::alloc::Global;
 
-/// An assignment to what the name stands for, of this value of an expression.
+/// An assignment of this value of an expression to a name's target.
 pub(crate) fn stored(
     alloc: Global,
     target: Target,

@@ -13,8 +13,8 @@ use lsl_tree::{Item, Name, Param, Place};
 use lsl_value::Kind;
 use std::alloc::Global;
 
-/// What was visible where a block begins: how many variables, labels and passed labels, and the numbers of the block
-/// around.
+/// What was visible where a block begins: the numbers of variables, labels and passed labels, and the numbers of the
+/// block around.
 #[derive(Clone, Copy)]
 pub struct Outer {
     names: usize,
@@ -79,7 +79,7 @@ impl Frame {
         Ok(outer)
     }
 
-    /// Ends a block: what was declared in it is forgotten.
+    /// Ends a block, and removes what was declared in it.
     pub(crate) fn close(&mut self, outer: Outer)
         ensures { frame_of self.new ≡ closed (frame_of self.old) outer }
     {
@@ -92,7 +92,7 @@ impl Frame {
     }
 }
 
-/// The labels that stand directly in a block.
+/// The labels directly in a block.
 fn push_labels(alloc: Global, labels: &mut Names, items: &[Item]) -> Result<(), NoMemory>
     ensures { OnOk result (labels.new ≡ labels_of (items_of items.now) ++ labels.old) }
 {

@@ -51,7 +51,7 @@ impl Params<'_> {
 }
 
 impl Known {
-    /// What a called name stands for.
+    /// What a called name refers to.
     pub(crate) fn callable(&self, name: &Name) -> Result<Calling<'_>, Refused>
         ensures { Rules calling_of result (callable_verdict (known_of self.now) name.now) }
     {
@@ -100,7 +100,7 @@ impl Calling<'_> {
         }
     }
 
-    /// The call of a name whose value is needed.
+    /// The call of a name in a place that needs a value.
     pub(crate) fn value(
         &self,
         alloc: Global,

@@ -16,7 +16,7 @@ use lsl_tree::{Expr, Node};
 use lsl_value::{Kind, Text};
 use std::alloc::Global;
 
-/// The node of the expression as one of this kind, by the cast that nobody wrote if need be.
+/// The node of the expression as one of this kind, with an implicit cast if need be.
 pub(crate) fn as_kind(alloc: Global, kind: Kind, node: Node, expr: &Expr) -> Result<Node, Refused>
     ensures { Rules node_of result (become_verdict kind (node_of node) (first_span (expr_of expr.now))) }
 {

@@ -21,7 +21,7 @@ use lsl_value::Kind;
 use std::alloc::Global;
 
 impl Checker<'_> {
-    /// A declaration: the variable is not visible in its own value.
+    /// A declaration: the variable isn't visible in its own value.
     pub(crate) fn declaration(
         &self,
         frame: &mut Frame,

@@ -1,4 +1,4 @@
-//! Expressions that stand as statements: they need not have a value.
+//! Expressions used as statements: they need not have a value.
 
 ghost use Rattle.std.specs.Prelude.{◌≡◌, map};
 ghost use Rattle.lsl_tree.specs.Expressions.{expr_of, exprs_of};
@@ -14,7 +14,7 @@ use crate::frame::Scope;
 use lsl_tree::{Effect, Expr};
 
 impl Checker<'_> {
-    /// An expression that stands as a statement.
+    /// An expression used as a statement.
     pub(crate) fn effect(&self, scope: &Scope, expr: &Expr) -> Result<Effect, Refused>
         ensures { Rules effect_of result
             (effect_verdict (known_of self.now.known.now) (scope_of scope.now) (expr_of expr.now)) }
@@ -32,7 +32,7 @@ impl Checker<'_> {
         }
     }
 
-    /// Expressions that stand as statements, from left to right.
+    /// Expressions used as statements, from left to right.
     pub(crate) fn effects(&self, scope: &Scope, exprs: &[Expr]) -> Result<Vec<Effect>, Refused>
         ensures { Rules (λ v. map effect_of v.items) result
             (effects_verdict (known_of self.now.known.now) (scope_of scope.now) (exprs_of exprs.now)) }

@@ -13,10 +13,10 @@ use lsl_value::Kind;
 pub enum TypeKind {
     /// There is no variable, function or state of this name.
     UnknownName,
-    /// The name is taken where it stands.
+    /// The name is taken.
     DoubleName,
-    /// A value's kind can't become the one that is wanted. `wanted` is none for an element of a list and for a
-    /// `return` with a value where none may stand; `found` is none for a `return` without a value.
+    /// A value's kind can't become the one that is wanted. `wanted` is none for an element of a list and for a `return`
+    /// with a value where none is allowed; `found` is none for a `return` without a value.
     WrongKind {
         wanted: Option<Kind>,
         found: Option<Kind>,
@@ -29,15 +29,15 @@ pub enum TypeKind {
     WrongCount,
     /// A constant can't be assigned, and no variable but an integer can be stepped.
     NotVariable,
-    /// A name in a global's initial value is no constant and no earlier global.
+    /// A name in a global's initial value isn't a constant or an earlier global.
     NotConstant,
-    /// `state` stands in a function.
+    /// `state` is in a function.
     StateInFunction,
     /// No enclosing block has this label.
     UnknownLabel,
     /// There is no event of this name, or its parameters are of other kinds.
     WrongHandler,
-    /// A call without a result stands where a value is needed.
+    /// A call without a result is in a place that needs a value.
     VoidUsed,
 }
 

@@ -54,7 +54,7 @@ pub(crate) fn repeated(
     })
 }
 
-/// A loop that tests behind each round.
+/// A loop that tests after each round.
 pub(crate) fn done_once(
     alloc: Global,
     span: Span,

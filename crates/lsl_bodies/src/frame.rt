@@ -1,4 +1,4 @@
-//! What is visible where a statement stands.
+//! What is visible at a statement.
 
 use crate::names::Names;
 use lsl_tree::Place;
@@ -39,7 +39,7 @@ pub enum Home {
     Function { kind: Option<Kind> },
 }
 
-/// What a name stands for where no call is meant.
+/// What a name refers to where no call is meant.
 #[derive(Clone, Copy)]
 pub enum Target {
     Kept(Variable),

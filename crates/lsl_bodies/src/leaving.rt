@@ -50,7 +50,7 @@ impl Known {
 }
 
 impl Home {
-    /// The kind that is returned, if any is.
+    /// The kind of the returned value, if there is one.
     pub(crate) fn kind(self) -> Option<Kind>
         ensures { result ≡ home_kind self }
     {

@@ -1,4 +1,4 @@
-//! The checker of bodies: what a function's or handler's body stands for, or its first fault of names and kinds.
+//! The checker of bodies: the meaning of a function's or handler's body, or its first fault of names and kinds.
 #![tactic(auto)]
 
 mod assignments;

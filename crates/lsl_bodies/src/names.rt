@@ -1,4 +1,4 @@
-//! Names in the order in which they were declared, with a table in which the latest of a name is found.
+//! Names in the order in which they were declared, with a table that finds the latest of a name.
 
 ghost use Rattle.std.specs.Prelude.{◌≡◌, ◌<◌, ◌-◌, ◌∷◌, [], length, drop, OnOk, OnErr, IfSome};
 ghost use Rattle.lsl_bodies.specs.Names.{nearest};
@@ -9,7 +9,7 @@ use lsl_text::NoMemory;
 use std::alloc::Global;
 use std::marker::Model;
 
-/// Where a name stands in the table, and the number of the earlier one that it hides.
+/// The place of a name in the table, and the number of the earlier one that it hides.
 #[derive(Drop)]
 struct Entry {
     place: usize,
@@ -76,7 +76,7 @@ impl Names {
         }
     }
 
-    /// Forgets the latest name, if there is one. Takes no memory.
+    /// Removes the latest name, if there is one. Takes no memory.
     pub fn pop(&mut self)
         ensures { self.new ≡ drop 1 self.old }
     {
@@ -85,14 +85,14 @@ impl Names {
         }
     }
 
-    /// Forgets all names. Takes no memory, and keeps what it has for those to come.
+    /// Removes all names. Takes no memory, and keeps its buffers for those to come.
     pub fn clear(&mut self)
         ensures { self.new ≡ [] }
     {
         self.truncate(0);
     }
 
-    /// Forgets all names but the first `len`. Takes no memory.
+    /// Removes all names but the first `len`. Takes no memory.
     pub fn truncate(&mut self, len: usize)
         ensures { self.new ≡ drop (length self.old - len) self.old }
     {

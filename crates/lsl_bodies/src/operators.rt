@@ -37,7 +37,7 @@ fn flat(exprs: &[Expr], nodes: &[Node]) -> Result<(), Refused>
     Ok(())
 }
 
-/// An element of a list is no list.
+/// An element of a list isn't a list.
 fn element(node: &Node, expr: &Expr) -> Result<(), Refused>
     ensures { Rules (λ u. u) result
         (must_verdict (is_no_list (node_kind_of (node_of node.now)))

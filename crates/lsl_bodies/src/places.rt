@@ -10,8 +10,8 @@ use indexmap::IndexMap;
 use lsl_text::NoMemory;
 use std::alloc::Global;
 
-/// Makes this the number of the name's latest entry. Gives the name's place, and the number that it had before. A name
-/// keeps its place, so it takes memory where it is new in the table.
+/// Makes this the number of the name's latest entry. Returns the name's place, and its old number. A name keeps its
+/// place, so it takes memory only if the name is new in the table.
 pub(crate) fn note(
     table: &mut IndexMap<String, Option<usize>>,
     alloc: Global,

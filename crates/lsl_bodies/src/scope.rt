@@ -15,7 +15,7 @@ use lsl_value::Kind;
 use std::alloc::Global;
 
 impl Scope {
-    /// The variable that the name stands for.
+    /// The variable that the name refers to.
     pub fn variable(&self, name: &Name) -> Option<Variable>
         ensures { result ≡ variable_of (scope_of self.now) (spelled name.now) }
     {
@@ -23,7 +23,7 @@ impl Scope {
         self.variables.get(number).copied()
     }
 
-    /// What the name stands for where no call is meant.
+    /// What the name refers to where no call is meant.
     pub(crate) fn target(&self, name: &Name) -> Result<Target, Refused>
         ensures { Rules (λ t. t) result (target_verdict (scope_of self.now) name.now) }
     {
@@ -67,7 +67,7 @@ pub(crate) fn assignable(target: Target, name: &Name) -> Result<Variable, Refuse
     }
 }
 
-/// Where the variable that is stepped is kept: it is an integer.
+/// The place of a variable that is stepped: it is an integer.
 pub(crate) fn counter(target: Target, name: &Name) -> Result<Place, Refused>
     ensures { Rules (λ p. p) result (counter_verdict target name.now) }
 {

@@ -1,4 +1,4 @@
-//! Where the first token of a value stands.
+//! The place of a value's first token.
 
 ghost use Rattle.std.specs.Prelude.{◌≡◌};
 ghost use Rattle.lsl_tree.specs.Expressions.{expr_of};

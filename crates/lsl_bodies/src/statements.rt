@@ -1,4 +1,4 @@
-//! Statements and blocks: what they stand for, or their first fault.
+//! Statements and blocks: their meaning, or their first fault.
 
 ghost use Rattle.std.specs.Prelude.{◌≡◌, OnOk};
 ghost use Rattle.lsl_tree.specs.Statements as stmt;
@@ -135,7 +135,7 @@ impl Checker<'_> {
         Ok(Action::Block { actions })
     }
 
-    /// A block, and what is visible behind it.
+    /// A block, and what is visible after it.
     #[inline(never)]
     #[cycle(statement)]
     fn block(&self, frame: &mut Frame, items: &[Item]) -> Result<Action, Refused>
@@ -150,7 +150,7 @@ impl Checker<'_> {
         Ok(Action::Block { actions })
     }
 
-    /// What stands in a block, in order.
+    /// The items of a block, in order.
     #[cycle(statement)]
     pub(crate) fn actions(&self, frame: &mut Frame, items: &[Item]) -> Result<Vec<Action>, Refused>
         ensures { Rules (λ v. (actions_of v.items, frame_of frame.new)) result

@@ -1,4 +1,4 @@
-//! Expressions whose values are needed: what they stand for, or their first fault.
+//! Expressions that must have a value: their meaning, or their first fault.
 
 ghost use Rattle.std.specs.Prelude.{◌≡◌, length, IfOk};
 ghost use Rattle.lsl_tree.specs.Expressions as expr;
@@ -19,7 +19,7 @@ use lsl_tree::{AssignOp, Expr, Name, Node};
 use lsl_value::{Kind, UnaryOp};
 
 impl Checker<'_> {
-    /// An expression whose value is needed.
+    /// An expression that must have a value.
     #[cycle(value)]
     pub(crate) fn value(&self, scope: &Scope, expr: &Expr) -> Result<Node, Refused>
         ensures { Rules node_of result
@@ -62,7 +62,7 @@ impl Checker<'_> {
         }
     }
 
-    /// A call whose value is needed.
+    /// A call that must have a value.
     #[inline(never)]
     #[cycle(value)]
     fn call(&self, scope: &Scope, name: &Name, arguments: &[Expr]) -> Result<Node, Refused>
@@ -116,7 +116,7 @@ impl Checker<'_> {
         stored(self.alloc, target, name, op, span, node, right)
     }
 
-    /// Expressions whose values are needed, from left to right.
+    /// Expressions that must have values, from left to right.
     #[cycle(value)]
     pub(crate) fn values(&self, scope: &Scope, exprs: &[Expr]) -> Result<Vec<Node>, Refused>
         ensures found { Rules (λ v. nodes_of v.items) result

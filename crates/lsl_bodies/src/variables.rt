@@ -1,4 +1,4 @@
-//! Variables and constants whose values are needed, and `++` and `--`.
+//! Variables and constants that must have a value, and `++` and `--`.
 
 ghost use Rattle.std.specs.Prelude.{◌≡◌};
 ghost use Rattle.lsl_tree.specs.Nodes.{node_of};

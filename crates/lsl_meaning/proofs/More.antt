@@ -9,7 +9,7 @@ use Rattle.lsl_running.specs.Charging.{used, is_within}
 use Rattle.lsl_running.specs.Results.{ActiveCall, Whole, Asks, Cut, Fails}
 use Rattle.lsl_meaning.specs.State.{State, Site, active_call, Evaluation, Gives, Stops, bind, give, give_result, tick}
 
--- so many more ticks and these more answers: an evaluation that ends so may then end otherwise
+-- this many more ticks and these more answers: an evaluation that ends this way may end otherwise with them
 pub record Surplus : Type 1 where
   pub ticks : ℕ
   pub answers : List Reply

@@ -28,7 +28,7 @@ use Rattle.lsl_meaning.specs.Calls.{Lower, first_slots, result_at_end, result_be
 use Rattle.lsl_meaning.specs.Expressions.{value_at, storing, assign, give_operation, step_operator, assign_step, step_behind, needed, value_of, values_of}
 use Rattle.lsl_meaning.proofs.More.{Surplus, more, Extends, bind_more, cond_more, give_more, give_result_more, tick_more}
 
--- what lies behind a tick, with fewer and with more ticks
+-- what comes after a tick, with fewer and with more ticks
 abbrev pub LowerExtends : Surplus → Lower → Lower → Type 0
 LowerExtends x low low' =
     (a : Action) (from : Option ℕ) (site : Site) (s : State)

@@ -29,7 +29,7 @@ module _ (x : Surplus) where
       let lower = level_more routines n m (omega arith) in
       execute_more x (level routines n) (level routines m) lower routines a from site s
 
-  -- what comes of the handler is the same, or may change
+  -- the result of the handler is the same, or may change
   ended_more : (r r' : Evaluation (Option Value)) → Extends x r r' → x.IsLoose (ended r) ⊎ (ended r' ≡ ended r)
   ended_more (Gives result s) r' e = inr (ap ended e)
   ended_more (Stops w) r' e = ⊎_elim (λ l. inl l) (λ q. inr (ap ended q)) e

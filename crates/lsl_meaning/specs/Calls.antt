@@ -21,11 +21,11 @@ use Rattle.lsl_running.specs.Results.{Ends, Asks, Fails, Lost}
 use Rattle.lsl_running.specs.Values.{empty_of, absent}
 use Rattle.lsl_meaning.specs.State.{State, Site, within_call, Evaluation, Gives, Stops, bind, Flow, Normal, Returned, Jumped, give_result, tick}
 
--- what is done behind a tick: a statement, from its start or from behind a label that stands directly in it
+-- what is done after a tick: a statement, from its start or from after a label directly in it
 abbrev pub Lower : Type 0
 Lower = Action → Option ℕ → Site → State → Evaluation Flow
 
--- what a routine's slots hold at first: the arguments, and behind them each slot its kind's empty value
+-- what a routine's slots hold at first: the arguments, and then in each slot its kind's empty value
 abbrev pub first_slots : Routine → List Value → List Value
 first_slots r arguments = arguments ++ map empty_of (drop r.params r.slots)
 
@@ -34,13 +34,13 @@ abbrev pub result_at_end : Option Kind → State → Evaluation (Option Value)
 result_at_end None s = Gives None s
 result_at_end (Some kind) s = Stops Lost
 
--- the result of a routine whose body ends so
+-- the result of a routine whose body ends this way
 abbrev pub result_behind : Option Kind → Flow → State → Evaluation (Option Value)
 result_behind kind Normal s = result_at_end kind s
 result_behind kind (Returned result) s = Gives result s
 result_behind kind (Jumped label) s = Stops Lost
 
--- a routine whose slots are made: the charge is tested, a tick passes, and the body is done
+-- a routine with its slots: the charge is tested, a tick passes, and the body is done
 abbrev pub run_routine : Lower → Routine → Site → State → Evaluation (Option Value)
 run_routine low r site s =
     cond (is_within s.kept (used site.held s.slots s.kept))
@@ -59,13 +59,13 @@ abbrev pub reply_given : Reply → Site → State → Evaluation (Option Value)
 reply_given (reply.Value result) site s = give_result result site s
 reply_given (reply.Stop fault) site s = Stops (Fails fault)
 
--- a host call takes the next answer; where none is left, the host is asked
+-- a host call takes the next answer; if none is left, the host is asked
 abbrev pub ask : BuiltinId → List Value → Site → List Reply → State → Evaluation (Option Value)
 ask id arguments site [] s = Stops (Asks id arguments)
 ask id arguments site (answer ∷ more) s =
     cond (is_answered_by id answer) (reply_given answer site (record s { answers = more })) (Stops Lost)
 
--- the limit that was asked for is got or not, and the script is told; its argument waits no more
+-- the limit is set or not, and the script gets the answer; its argument waits no more
 abbrev pub limit_given : Option ℕ → Site → State → Evaluation (Option Value)
 limit_given limit site s =
     give_result (Some (grant_value limit)) site (record s { kept = with_limit limit s.kept })

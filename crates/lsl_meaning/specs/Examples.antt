@@ -1,4 +1,4 @@
--- Scripts as checked programs, and what comes of them.
+-- Scripts as checked programs, and their results.
 use Rattle.std.specs.Prelude.{ℕ, ℤ, pos, List, [], ◌∷◌, map, Some, None, codes}
 use Rattle.lsl_value.specs.declared.names.BuiltinId.TheVariants.{OwnerSay, GetUsedMemory, SetMemoryLimit}
 use Rattle.lsl_value.specs.declared.names.EventId.{EventId}
@@ -147,6 +147,6 @@ recursing = script TouchStart [] (record { name = codes "d"; routine = depth } �
 abbrev pub call_on : ℕ → ℤ → ℕ → ActiveCall
 call_on number n line = record { function = number; slots = value.Int n ∷ []; line = line }
 
--- what comes of a script's handler from the start, for these ticks and answers
+-- the result of a script's handler from the start, for these ticks and answers
 abbrev pub first_whole : Program → ℕ → ℕ → List Reply → Whole
 first_whole p number ticks answers = whole p number (initial_kept p) [] ticks answers

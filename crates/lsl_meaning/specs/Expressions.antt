@@ -33,7 +33,7 @@ storing (Global i) v s = record s { kept = with_global s.kept i v }
 abbrev pub assign : Place → Value → Site → State → Evaluation Value
 assign place v site s = give v site (storing place v s)
 
--- an operator's value; there is none where it divides by 0
+-- an operator's value; there is none if it divides by 0
 abbrev pub give_operation : Option Value → Site → State → Evaluation Value
 give_operation None site s = Stops (Fails MathError)
 give_operation (Some v) site s = give v site s
@@ -55,7 +55,7 @@ step_behind place op site s =
     bind (give (value_at place s) site s) (λ old t.
     bind (assign_step place op (holding site old) t) (λ stepped u. give old site u))
 
--- the result of a call that stands where a value is needed
+-- the result of a call in a place that needs a value
 abbrev pub needed : Option Value → State → Evaluation Value
 needed None s = Stops Lost
 needed (Some v) s = Gives v s
@@ -80,7 +80,7 @@ module _ (routines : List Routine) (low : Lower) where
     value_of (Assign place kind operand) site s = bind (value_of operand site s) (λ v t. assign place v site t)
     value_of (StepBehind place op) site s = step_behind place op site s
 
-    -- the values of these, from the first to the last, each of which waits for the others; the last one stands first
+    -- the values of these, from the first to the last, each of which waits for the others; the last one comes first
     pub values_of : Nodes → Site → State → Evaluation (List Value)
     values_of NoNode site s = Gives [] s
     values_of (AndNode nodes node) site s =

@@ -12,7 +12,7 @@ use Rattle.lsl_running.specs.declared.kept.Kept.{Kept}
 use Rattle.lsl_running.specs.Charging.{default_limit}
 use Rattle.lsl_running.specs.Values.{absent, unary_value, list_value}
 
--- behind globals that hold these values
+-- after globals that hold these values
 abbrev pub part_value_of : List Value → Part → Value
 part_value_of before (Int n) = value.Int n
 part_value_of before (Negative n) = unary_value Negate (value.Int n)
@@ -25,7 +25,7 @@ initial_value_of before (Single part) = part_value_of before part
 initial_value_of before (Cast kind part) = cast_of (part_value_of before part) kind
 initial_value_of before (ListLiteral parts) = list_value (map (part_value_of before) parts)
 
--- these values, and behind them those of further globals
+-- these values, and then those of further globals
 abbrev pub globals_behind : List Value → List Initial → List Value
 globals_behind before [] = before
 globals_behind before (g ∷ gs) = globals_behind (before ++ initial_value_of before g ∷ []) gs

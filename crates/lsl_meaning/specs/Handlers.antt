@@ -1,4 +1,4 @@
--- What comes of a handler: it is evaluated whole, from its start.
+-- The result of a handler: it is evaluated whole, from its start.
 use Rattle.std.specs.Prelude.{ℕ, zero, suc, List, [], slice_get, Option, Some, None}
 use Rattle.lsl_value.specs.declared.tagged.Value.{Value}
 use Rattle.lsl_tree.specs.Program.{Routine, Program}
@@ -12,7 +12,7 @@ use Rattle.lsl_meaning.specs.State.{Site, Evaluation, Gives, Stops}
 use Rattle.lsl_meaning.specs.Calls.{Lower, first_slots, run_routine}
 use Rattle.lsl_meaning.specs.Statements.{execute}
 
--- what a statement does behind a tick, where at most so many ticks pass
+-- what a statement does after a tick, if at most n ticks pass
 abbrev pub level : List Routine → ℕ → Lower
 level routines zero = λ a from site s. Stops (Cut [])
 level routines (suc n) = execute routines (level routines n)

@@ -41,6 +41,6 @@ OperatorsKeepKinds =
 abbrev pub CastsGiveTheirKind : Type 0
 CastsGiveTheirKind = (value : Value) (kind : Kind) → kind_of (cast_of value kind) ≡ kind
 
--- the globals of a program whose kinds are in order begin with values of their kinds
+-- the globals of a program with kinds in order begin with values of their kinds
 abbrev pub GlobalsKeepKinds : Type 0
 GlobalsKeepKinds = (p : Program) → IsKinded p → map kind_of (initial_globals p) ≡ global_kinds p

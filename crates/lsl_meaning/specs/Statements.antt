@@ -23,14 +23,13 @@ on_normal next (Jumped label) s = Gives (Jumped label) s
 abbrev pub has_label : List ℕ → ℕ → Bool
 has_label labels label = list_any (nat_eq label) labels
 
--- the result of a call that stands where no value is needed
+-- the result of a call in a place that needs no value
 abbrev pub no_result : Option Value → State → Evaluation (Unit {0})
 no_result None s = Gives tt s
 no_result (Some v) s = Stops Lost
 
 -- with these routines in the script
 module _ (routines : List Routine) (low : Lower) where
-  -- an expression whose value is dropped, or a call without a result
   abbrev pub perform : effect.Effect → Site → State → Evaluation (Unit {0})
   perform (effect.Value node) site s = bind (value_of routines low node site s) (λ v t. Gives tt t)
   perform (effect.Call callee line arguments) site s =
@@ -41,7 +40,7 @@ module _ (routines : List Routine) (low : Lower) where
   perform_all [] site s = Gives tt s
   perform_all (x ∷ xs) site s = bind (perform x site s) (λ _ t. perform_all xs site t)
 
-  -- a jump out of a block's statements goes on in the block, behind the label, where it stands directly in it
+  -- a jump out of a block's statements continues in the block, after the label, if it is directly in it
   abbrev pub caught : Actions → Site → Flow → State → Evaluation Flow
   caught xs site Normal s = Gives Normal s
   caught xs site (Returned result) s = Gives (Returned result) s
@@ -49,7 +48,7 @@ module _ (routines : List Routine) (low : Lower) where
       cond (has_label (labels_in xs) label) (low (Block xs) (Some label) site s) (Gives (Jumped label) s)
 
   abbrev mutual
-    -- a block may begin behind a label that stands directly in it
+    -- a block may begin after a label directly in it
     pub execute : Action → Option ℕ → Site → State → Evaluation Flow
     execute (Block xs) from site s = bind (execute_all xs from site s) (caught xs site)
     execute (Effect x) from site s = bind (perform x site s) (λ _ t. Gives Normal t)
@@ -77,7 +76,7 @@ module _ (routines : List Routine) (low : Lower) where
         bind (value_of routines low node site s) (λ v t. Gives (Returned (Some v)) t)
     execute (GoToState n) from site s = Stops (Ends (StateTo n) s.kept)
 
-    -- the statements of a block, from the first one or from behind a label
+    -- the statements of a block, from the first one or from after a label
     pub execute_all : Actions → Option ℕ → Site → State → Evaluation Flow
     execute_all NoAction from site s = Gives Normal s
     execute_all (AndAction xs a) None site s =

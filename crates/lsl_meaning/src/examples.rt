@@ -1,4 +1,4 @@
-//! Small scripts, and what comes of them. Each example is a function whose clauses say it; it does nothing.
+//! Small scripts, and their results. Each example is a function whose clauses say it; it does nothing.
 
 ghost use Rattle.std.specs.Prelude.{◌≡◌, [], ◌∷◌, codes, pos};
 ghost use Rattle.lsl_running.specs.Results.{Cut};
@@ -26,8 +26,8 @@ pub fn used_memory()
     ensures { first_whole measuring 1 2 [] ≡ left_with (pos 1113 ∷ []) }
 {}
 
-/// A script that is charged 1072 gets the limit that leaves an integer beside, 1080, and none below it: the argument
-/// of the call doesn't wait any more.
+/// A script that is charged 1072 gets the limit 1080, which leaves room for one integer, and none below it: the
+/// argument of the call doesn't wait any more.
 pub fn memory_limit()
     ensures { first_whole limiting 0 1 [] ≡ left_within 1080 (pos 0 ∷ pos 1 ∷ []) }
 {}
@@ -39,7 +39,7 @@ pub fn jump_back()
     ensures cut { first_whole jumping 0 2 [] ≡ Cut (active_call 2 (outermost 0) [] ∷ []) }
 {}
 
-/// A recursion that is cut at its third entry stands there in the function's own line, and its callers in the lines of
+/// A recursion that is cut at its third entry is in the function's own line there, and its callers in the lines of
 /// their calls, each with the slots that it has.
 pub fn calls_of_a_recursion()
     ensures { whole recursing 1 (initial_kept recursing) (Int (pos 1) ∷ []) 3 []

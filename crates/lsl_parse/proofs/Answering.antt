@@ -43,7 +43,7 @@ pub found_tree : (ts : List Token) (x : Tree) → all_r Narrow most_constructs t
     → length ts ≤ most_tokens → Derives ts x
 found_tree ts x e le = record { derived = found ts [] x e; counted = le }
 
--- where there are too many tokens, no tree has them
+-- if there are too many tokens, no tree has them
 pub large_none : (ts : List Token) (y : Tree) → most_tokens < length ts → Derives ts y → ⊥
 large_none ts y lt d = omega (arith, d.counted)
 

@@ -61,7 +61,7 @@ every ts x d =
     d.derived refl in
     ap (λ o. o >>= λ y. end_r y.0 y.1) read
 
--- tokens behind a whole script
+-- tokens after a whole script
 behind : (ts : List Token) (y : Tree) (t : Token) (m : List Token)
     → script_r Narrow most_constructs ts ≡ Ok (y, t ∷ m) → Stopped ts (why.Unexpected, t ∷ m)
 behind ts y t m f =
@@ -174,7 +174,7 @@ pub every_none : (ts rest : List Token) (y : Tree) (w : Why) → all_r Narrow mo
     → Derives ts y → ⊥
 every_none ts rest y w f d = let both = sym f ∙ every ts y d in cc
 
--- a stop at a token that may stand there
+-- a stop at a token that is allowed there
 pub first_stop : (ts rest : List Token) (w : Why) (end s : Span)
     → all_r Narrow most_constructs ts ≡ Err (w, rest) → length ts ≤ most_tokens + length rest
     → s ≡ span_at rest end 0 → (place : ℕ) × ParseFirst ts place (fault_kind w rest)
@@ -188,7 +188,7 @@ first_stop ts rest w end s e le f =
           ∙ sym (ap (λ l. span_at l end (length h.front)) h.there ∙ span-at h.front rest end),
     )
 
--- a stop behind more tokens than there may be
+-- a stop after more tokens than there may be
 pub large_stop : (ts rest : List Token) (w : Why) → all_r Narrow most_constructs ts ≡ Err (w, rest)
     → most_tokens + length rest < length ts → ParseFirst ts most_tokens TooLarge
 large_stop ts rest w e lt =

@@ -81,7 +81,7 @@ pub wide_rule : (limit : Option ℕ) (d D : ℕ) → suc d < D
     (codes header_heads ++ codes (sort.DefaultWord ∷ [])) (λ _. codes (sort.StateWord ∷ []))
 wide_rule limit d D lt = script_is_read limit d D lt
 
--- each front of what begins a script begins one
+-- each prefix of what begins a script begins one
 pub front : (n : ℕ) (u : List Token) → Shallow u → Shallow (take n u)
 front n u o = (wide_rule Narrow most_constructs (most_constructs + 2) (omega arith)).fronts.closed (take n u)
     (drop n u) (subst Shallow (sym (take-append-drop n u)) o)
@@ -99,7 +99,7 @@ shallow_open u o = (
 wider_opens : (e D : ℕ) (u : List Token) → suc e < D → (script None e).opens u → (script None D).opens u
 wider_opens e D u lt o = (wide_rule None e D lt).mono.opens u o
 
--- what didn't stop for a limit is read so within wider ones
+-- what didn't stop for a limit is read that way within wider ones
 pub wide_same : (ts : List Token) (o : Reading) → script_r Narrow most_constructs ts ≡ o → (Sinks o → ⊥)
     → (D : ℕ) → suc most_constructs < D → script_r None D ts ≡ o
 wide_same ts o e h D lt = ⊎_elim (λ s. s ∙ e) (λ s. absurd (h (subst Sinks e s)))
@@ -150,7 +150,7 @@ foreign ts u m t s e = no_operand u (λ D lt i k past.
     no_ends token_code probe i [] (subst (Past [])
     (ap (λ l. script_r None D (l ++ i ∷ [])) (sym same) ∙ h i [] k) past))
 
--- a token behind a whole script
+-- a token after a whole script
 pub foreign_behind : (ts u m : List Token) (t : Token) (x : Tree) → ts ≡ u ++ t ∷ m
     → (script Narrow most_constructs).whole u x → WantsOperand u → ⊥
 foreign_behind ts u m t x s w = no_operand u (λ D lt i k past.
@@ -197,7 +197,7 @@ is_less sort.Less e = refl
 is_less (sort.Name t) e = absurd (cc)
 is_less _ e = absurd (omega (arith, e))
 
--- a token that cannot go on, and where an operand can't begin either
+-- a token that can't continue, where an operand can't begin either
 module _ (ts u m : List Token) (t : Token) (s : ts ≡ u ++ t ∷ m) (closed : Open (u ++ t ∷ []) → ⊥) where
   below : length u < length ts
   below = omega (arith, ap length s, place_below u m t)

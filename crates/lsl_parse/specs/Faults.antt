@@ -1,4 +1,4 @@
--- Which tokens are a script, and the first fault of those that are none.
+-- Which tokens are a script, and the first fault of those that aren't.
 use Rattle.std.specs.Prelude.{◌≡◌, ℕ, ℤ, zero, suc, ◌+◌, ◌<◌, ◌≤◌, true, None, Some, List, [], ◌∷◌, ◌++◌, ◌⊎◌, length, take, slice_get}
 use Rattle.lsl_text.specs.declared.Span.{Span}
 use Rattle.lsl_text.specs.declared.Refusal.{Refusal}
@@ -33,7 +33,7 @@ pub record Within (tokens : List Token) : Type 0 where
 abbrev pub Open : List Token → Type 0
 Open tokens = (depth : ℕ) × (script None depth).opens tokens
 
--- behind these tokens an operand may begin: an INT would go on
+-- after these tokens an operand may begin: an INT would continue them
 pub record WantsOperand (tokens : List Token) : Type 0 where
   pub operand : Token
   pub value : ℤ
@@ -44,7 +44,7 @@ pub record WantsOperand (tokens : List Token) : Type 0 where
 abbrev pub refused_words : List Sort
 refused_words = FloatWord ∷ VectorWord ∷ RotationWord ∷ QuaternionWord ∷ []
 
--- behind these tokens the next one asks for what isn't in the language
+-- after these tokens the next one asks for what isn't in the language
 abbrev pub IsFloatType : List Token → Token → Type 0
 IsFloatType before t = (among (token_code t) (codes refused_words) ≡ true) ⊎ ((t.sort ≡ Less) × WantsOperand before)
 
@@ -64,12 +64,12 @@ Breaks tokens place TooDeep = (place < length tokens) × Open (take (place + 1) 
     × (Shallow (take (place + 1) tokens) → ⊥)
 Breaks tokens place TooLarge = (place < length tokens) × Shallow (take (place + 1) tokens) × (most_tokens ≤ place)
 
--- the earliest place with whose token the tokens begin no script within the limits, or the end, where they are none
+-- the earliest place up to which the tokens begin no script within the limits; or the end, if they aren't one
 pub record ParseFirst (tokens : List Token) (place : ℕ) (kind : ParseKind) : Type 0 where
   pub before : (n : ℕ) → n ≤ place → Within (take n tokens)
   pub here : Breaks tokens place kind
 
--- where the token at this place stands, or the end
+-- the place of the token here, or the end
 abbrev pub span_at : List Token → Span → ℕ → Span
 span_at [] end place = end
 span_at (t ∷ ts) end zero = t.span
@@ -79,7 +79,7 @@ span_at (t ∷ ts) end (suc place) = span_at ts end place
 abbrev pub IsFirst : List Token → Span → ParseFault → Type 0
 IsFirst tokens end fault = (place : ℕ) × ParseFirst tokens place fault.kind × (fault.span ≡ span_at tokens end place)
 
--- the refusal is a fault of which this holds, or want of memory
+-- the refusal is a fault of which this holds, or out of memory
 abbrev pub IfFault : {F : Type 0} → Refusal F → (F → Type 0) → Type 0
 IfFault refusal.NoMemory P = Unit {0}
 IfFault (refusal.Fault f) P = P f

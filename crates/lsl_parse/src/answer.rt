@@ -20,7 +20,7 @@ use lsl_text::{Refusal, Span};
 use lsl_tree::Tree;
 use std::alloc::Global;
 
-/// A script with nothing behind it.
+/// A script with nothing after it.
 fn whole<'a>(alloc: Global, tokens: &'a [Token]) -> Result<Tree, Refusal<Stop<'a>>>
     ensures { Parses (λ t. (tree_of t, [])) result (all_r (Some height_limit) most_constructs tokens.now) }
 {
@@ -28,7 +28,7 @@ fn whole<'a>(alloc: Global, tokens: &'a [Token]) -> Result<Tree, Refusal<Stop<'a
     ended(tree, rest)
 }
 
-/// The tree, where nothing stands behind it.
+/// The tree, if nothing follows it.
 fn ended<'a>(tree: Tree, rest: &'a [Token]) -> Result<Tree, Refusal<Stop<'a>>>
     ensures { Parses (λ t. (tree_of t, [])) result (end_r (tree_of tree) rest.now) }
 {
@@ -41,7 +41,7 @@ fn ended<'a>(tree: Tree, rest: &'a [Token]) -> Result<Tree, Refusal<Stop<'a>>>
     }
 }
 
-/// Where the first of these tokens stands, or the end.
+/// The place of the first of these tokens, or the end.
 fn first_span(tokens: &[Token], end: Span) -> Span
     ensures { result ≡ span_at tokens.now end 0 }
 {
@@ -51,7 +51,7 @@ fn first_span(tokens: &[Token], end: Span) -> Span
     }
 }
 
-/// The fault of a token that cannot go on.
+/// The fault of a token that can't continue a script.
 fn foreign(token: &Token, due: bool) -> ParseKind
     ensures { result ≡ fault_kind (if due then Why.OperandDue else Why.Unexpected) (token.now ∷ []) }
 {

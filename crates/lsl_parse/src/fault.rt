@@ -8,13 +8,13 @@ use lsl_text::Span;
 /// A syntax fault.
 #[derive(Clone, Copy, PartialEq, Eq, Hash)]
 pub enum ParseKind {
-    /// No script goes on with this token.
+    /// No script continues with this token.
     Unexpected,
     /// The text ended before the script did.
     EndOfText,
     /// The word of a type that isn't in the language, or `<` where an operand must begin.
     FloatType,
-    /// The token opens a construct inside 200 others, or is an operator behind an operand of height 200 or more.
+    /// The token opens a construct inside 200 others, or is an operator after an operand of height 200 or more.
     TooDeep,
     /// The token with number 32,769.
     TooLarge,

@@ -1,4 +1,4 @@
--- What stands in a block is read, and the body of a statement.
+-- The items of a block are read, and the body of a statement.
 use Rattle.std.proofs.Common.{◌≡◌, ℕ, zero, suc, ◌<◌, true, false, not, Option, None, Some, List, [], ◌∷◌, ◌++◌, inl, refl, ap, ◌∙◌, arith}
 use Rattle.lsl_lex.specs.Kinds.{kind_of}
 use Rattle.lsl_tree.specs.Expressions.{Expr}
@@ -46,7 +46,7 @@ body_whole limit zero (suc (suc D)) b = record {
 body_whole limit (suc d) zero b = absurd b
 body_whole limit (suc d) (suc D) b = b.1
 
--- What stands in a block
+-- The items of a block
 
 pub item_heads : List ℕ
 item_heads = codes types ++ (codes (At ∷ []) ++ codes statement_heads)

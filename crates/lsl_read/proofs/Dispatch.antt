@@ -35,7 +35,7 @@ pub begins_more : (ks all : List Sort) (ts : List Token) → subset (codes ks) (
 begins_more ks all [] s e = absurd (cc)
 begins_more ks all (t ∷ ts) s e = sub_by (codes ks) (codes all) s (token_code t) e
 
--- the first tokens of an operand but an INT
+-- the first tokens of an operand other than an INT
 abbrev pub operand_heads : List Sort
 operand_heads = Minus ∷ Bang ∷ Tilde ∷ PlusPlus ∷ MinusMinus ∷ ParenOpen ∷ BracketOpen ∷ Str ∷ Name ∷ []
 
@@ -91,7 +91,7 @@ module _ (limit : Option ℕ) (d : ℕ) (ts : List Token) where
       ∙ cond_false _ _ _ (fewer (Str ∷ []) operand_heads ts refl e)
       ∙ cond_false _ _ _ (fewer (Name ∷ []) operand_heads ts refl e)
 
--- the first tokens of a statement that is no expression, but `;`
+-- the first tokens of a statement that isn't an expression, other than `;`
 abbrev pub statement_words : List Sort
 statement_words = BraceOpen ∷ IfWord ∷ WhileWord ∷ DoWord ∷ ForWord ∷ JumpWord ∷ ReturnWord ∷ StateWord ∷ []
 

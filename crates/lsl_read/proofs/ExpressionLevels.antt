@@ -56,7 +56,7 @@ in_tails (suc k) j c lt e = by (cases_lt j k) (λ h. in_tails k j c h e)
     by (inr h) ih = let same : j ≡ k = omega arith in
         sub_left (codes (signs k)) (tails k) c (subst (λ m. among c (codes (signs m)) ≡ true) same e)
 
--- a sign of one level is none of a tighter one
+-- a sign of one level isn't one of a tighter one
 tighter : (k j c : ℕ) → j < k → among c (codes (signs k)) ≡ true → among c (codes (signs j)) ≡ false
 tighter k j c lt e = go (among c (codes (signs j))) refl
   where
@@ -76,7 +76,7 @@ no_level (suc (suc (suc (suc (suc (suc (suc zero))))))) c h = absurd (omega arit
 no_level (suc (suc (suc (suc (suc (suc (suc (suc zero)))))))) c h = absurd (omega arith)
 no_level (suc (suc (suc (suc (suc (suc (suc (suc (suc j))))))))) c h = refl
 
--- no sign of the tightest so many levels stands next
+-- no sign of the n tightest levels is next
 abbrev pub Clear : ℕ → List Token → Type 0
 Clear n ts = (j : ℕ) → j < n → begins token_code (codes (signs j)) ts ≡ false
 
@@ -114,7 +114,7 @@ module _ {A : Type 0} (ks : List ℕ) (p : A → TokenReader A) where
   bad_round a (s ∷ ts) t e = cond_true (among (token_code s) ks) _ _ t
       ∙ ap (λ o. o >>= λ x. turns_r token_code ks p (length ts) x.0 x.1) e
 
-  -- what holds behind each round holds behind all of them
+  -- what holds after each round holds after all of them
   rounds_keep : (P : List Token → Type 0) → ((a b : A) (ts rest : List Token) → p a ts ≡ Ok (b, rest) → P rest)
       → (n : ℕ) (a b : A) (ts rest : List Token) → P ts → turns_r token_code ks p n a ts ≡ Ok (b, rest) → P rest
   rounds_keep P each zero a b ts rest h e = subst P (ok_rest a b ts rest e) h
@@ -148,7 +148,7 @@ module _ (limit : Option ℕ) (d : ℕ) where
   unfolding level_r
   less n a b ts rest e = operand_less limit d n a b ts rest e
 
-  -- behind an operand that was read stands no sign of its levels
+  -- after an operand that was read there is no sign of its levels
   round_clear : (n : ℕ) → ((ts rest : List Token) (x : Expr) → level_rule_r limit U n ts ≡ Ok (x, rest)
       → Clear n rest) → (a b : Expr) (ts rest : List Token) → round n a ts ≡ Ok (b, rest) → Clear n rest
   round_clear n ih a b ts rest e = go (fits limit a) e
@@ -174,7 +174,7 @@ module _ (limit : Option ℕ) (d : ℕ) where
       first.0 x first.1 rest (level_clear n ts first.1 first.0 e1) e2)
       (rounds_stop token_code (codes (signs n)) (round n) (less n) first.0 x first.1 rest e2) j lt
 
-  -- where no sign stands next, nothing is read
+  -- where no sign is next, nothing is read
   still : (n : ℕ) (left : Expr) (ts : List Token) → Clear n ts → behind_r limit U n left ts ≡ Ok (left, ts)
   still zero left ts c = refl
   still (suc n) left ts c =
@@ -193,7 +193,7 @@ module _ (limit : Option ℕ) (d : ℕ) where
           (still n x.0 x.1 (round_clear n (level_clear n) left x.0 ts x.1 e)))
       go (Err x) e = bad_round (codes (signs n)) (round n) left ts t e
 
-  -- a sign of one of the levels takes its right operand, and then the same levels go on
+  -- a sign of one of the levels takes its right operand, and then the same levels continue
   step : (n k : ℕ) (left : Expr) (ts : List Token) → k < n → begins token_code (codes (signs k)) ts ≡ true
       → behind_r limit U n left ts ≡ (round k left ts >>= λ x. behind_r limit U n x.0 x.1)
   step zero k left ts lt t = absurd (omega arith)
@@ -227,7 +227,7 @@ module _ (limit : Option ℕ) (d : ℕ) where
       go (Ok x) = refl
       go (Err x) = refl
 
--- a level is an operand, and what stands behind it
+-- a level is an operand, and what follows it
 pub level_operators : (limit : Option ℕ) (d n : ℕ) (ts : List Token)
     → level_r limit d n ts ≡ (unary_r limit d ts >>= λ x. operators_r limit d n x.0 x.1)
 unfolding level_r unary_r operators_r

@@ -1,4 +1,4 @@
--- What the loops over expressions rest on.
+-- What the loops over expressions rely on.
 use Rattle.std.proofs.Common.{◌≡◌, ℕ, zero, suc, ◌+◌, ◌-◌, ◌<◌, true, Option, None, List, [], ◌∷◌, length, Ok, refl, sym, ap, arith}
 use Rattle.lsl_lex.specs.declared.token_types.Token.{Token}
 use Rattle.lsl_tree.specs.Expressions.{Expr, Exprs, NoExpr, AndExpr}
@@ -53,7 +53,7 @@ operand_less limit d n a b ts rest e =
     (next_operand_r limit (level_rule_r limit (Ur limit d) n) (signs n) a) (codes (signs n)) (λ _. tails n)
     s.rule.reads s.full ts rest b e
 
--- one more expression behind a comma
+-- one more expression after a comma
 pub next_step : (limit : Option ℕ) (d : ℕ) (a b : Exprs) (ts rest : List Token)
     → begins token_code (codes (Comma ∷ [])) ts ≡ true → comma_r AndExpr (expr_r limit d) a ts ≡ Ok (b, rest)
     → while_r (Comma ∷ []) (comma_r AndExpr (expr_r limit d)) a ts

@@ -25,7 +25,7 @@ probe = kind_of Int
 abbrev pub heads : List Sort
 heads = Minus ∷ Bang ∷ Tilde ∷ PlusPlus ∷ MinusMinus ∷ ParenOpen ∷ BracketOpen ∷ Str ∷ Name ∷ Int ∷ []
 
--- the tokens that go on an operand, a level and an expression
+-- the tokens that continue an operand, a level and an expression
 abbrev pub tails : ℕ → List ℕ
 tails zero = codes (PlusPlus ∷ MinusMinus ∷ ParenOpen ∷ [])
 tails (suc n) = codes (signs n) ++ tails n
@@ -150,7 +150,7 @@ signs_apart (suc (suc (suc (suc (suc (suc (suc zero))))))) = apart_by (codes (si
 signs_apart (suc (suc (suc (suc (suc (suc (suc (suc zero)))))))) = apart_by (codes (signs 8)) (tails 8) refl
 signs_apart (suc (suc (suc (suc (suc (suc (suc (suc (suc n))))))))) = λ k h m. cc
 
--- an operator whose left operand is too high, where it may be as high as it is within wider limits
+-- an operator with a left operand that is too high, but isn't within wider limits
 gate_solid : (b : Bool) (ks : List Sort) (c : List ℕ) (R : Language Expr) (J : Token → Language Expr)
     (r : TokenReader Expr) (k : Token → TokenReader Expr) → among probe (codes ks) ≡ false →
     Solid token_code probe R (any ks >=> J) r (then_r (any_r ks) k) (codes ks) c
@@ -158,7 +158,7 @@ gate_solid : (b : Bool) (ks : List Sort) (c : List ℕ) (R : Language Expr) (J :
 gate_solid true ks c R J r k lone s = s
 gate_solid false ks c R J r k lone s = solid_shut token_code probe (codes ks) c J k lone s.aside
 
--- an operator of a level and its right operand, behind this left one
+-- an operator of a level and its right operand, after this left one
 pub operation_solid : (limit : Option ℕ) (v v' : Language Expr) (q q' : TokenReader Expr) (n : ℕ)
     → Solid token_code probe v v' q q' (codes heads) (tails n) → (left : Expr) →
     Solid token_code probe (gate (fits limit left) (operation v (signs n) left))

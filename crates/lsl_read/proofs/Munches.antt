@@ -1,4 +1,4 @@
--- Behind a statement that ends in an `if` without an `else`, no `else` is left.
+-- After a statement that ends in an `if` without an `else`, no `else` is left.
 use Rattle.std.proofs.Common.{◌≡◌, ℕ, zero, suc, Bool, true, false, cond, Option, None, Some, List, [], ◌∷◌, Ok, Err, refl, sym, ap, ◌∙◌}
 use Rattle.lsl_text.specs.declared.Span.{Span}
 use Rattle.lsl_lex.specs.declared.token_types.Token.{Token}
@@ -14,7 +14,7 @@ use Rattle.lsl_signs.specs.Kinds.{Name, codes, token_code, name_of}
 use Rattle.lsl_read.specs.ExpressionReading.{TokenReader, sign_r, where_r, expressions_r, expr_r}
 use Rattle.lsl_read.specs.StatementReading.{statement_heads, StmtRoom_r, body_r, block_r, braces_r, else_r, if_r, while_rule_r, do_r, for_r, jump_r, return_r, state_name_r, state_rule_r, simple_r, statement_rule_r, stmt_room_r}
 
--- an `else` stands next
+-- an `else` is next
 abbrev pub else_next : List Token → Bool
 else_next ts = begins token_code (codes (ElseWord ∷ [])) ts
 
@@ -61,7 +61,7 @@ then_munches p q m = record {
       chain (p ts) (λ x. q x.0 x.1) (y, rest) e in (m x.0).munched x.1 rest y e2 o;
 }
 
--- what is made of a statement ends as it does
+-- what is built from a statement ends as it does
 made_munches : (p : TokenReader Stmt) (g : Stmt → Stmt) → ((x : Stmt) → ends_open (g x) ≡ ends_open x)
     → Munches p → Munches (then_r p (λ x. ret_r (g x)))
 made_munches p g same m = record {

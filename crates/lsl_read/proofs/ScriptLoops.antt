@@ -1,4 +1,4 @@
--- What the loops over scripts rest on.
+-- What the loops over scripts rely on.
 use Rattle.std.proofs.Common.{◌≡◌, ℕ, suc, ◌+◌, ◌<◌, true, false, Option, None, List, [], ◌∷◌, ◌++◌, length, map, Ok, refl, ap, ◌∙◌, arith}
 use Rattle.std.proofs.lemmas.List.{map-append}
 use Rattle.lsl_lex.specs.declared.token_types.Token.{Token}

@@ -80,7 +80,7 @@ module _ {A : Type 0} (ks : List Sort) (L M : Language A) (p q : TokenReader A)
       (λ _. codes ks) (λ b. (each_solid b).rule) (λ k h. h) (λ k h m. cc) (λ b. (each_solid b).full) refl
       (inr (λ b. (each_solid b).eats)) (λ _ k h. h) (λ _ k h. absurd (cc)) before
 
-  -- elements, and what may not be empty behind them
+  -- elements, and after them what may not be empty
   many_then : {B : Type 0} (g : List ℕ) (N : B → List ℕ) (K J : List A → Language B)
       (k k' : List A → TokenReader B) → ((x : List A) → Rule token_code probe (K x) (J x) (k x) (k' x) g N)
       → ((x : List A) → Filled (K x)) → disjoint g (codes ks) ≡ true →
@@ -92,7 +92,7 @@ module _ {A : Type 0} (ks : List Sort) (L M : Language A) (p q : TokenReader A)
       (many_rule before) r (λ x. apart_by g (codes ks) e) (λ x. lone) (λ x y w. absurd ((full x).none y w))
       (sub_left (codes ks) g) (λ x w. sub_right (codes ks) g)
 
--- a part behind which any token may stand, and what may be empty behind it
+-- a part that any token may follow, and after it what may be empty
 part_then : {A B : Type 0} {L M : Language A} {p p' : TokenReader A} {f : List ℕ} (g : List ℕ) (N : B → List ℕ)
     (K J : A → Language B) (k k' : A → TokenReader B) → Solid token_code probe L M p p' f []
     → ((x : A) → Rule token_code probe (K x) (J x) (k x) (k' x) g N)
@@ -164,7 +164,7 @@ module _ (limit : Option ℕ) (d D : ℕ) (lt : suc d < D) where
       (λ _. []) _ _ _ _ refl (λ name. (solid_ret token_code probe
       (λ all. record { name = name_of name; handlers = all }) handlers_solid).rule))
 
-  -- states, and the script that is made of them
+  -- states, and the script that is built from them
   states_rule : (headers : List Header) (start : List Handler)
       → Rule token_code probe (many (state (stmt_room_of limit d)) [] >=> λ states.
       ret (made headers start states)) (many (state (stmt_room_of None D)) [] >=> λ states.

@@ -1,4 +1,4 @@
--- What the loop over a block rests on.
+-- What the loop over a block relies on.
 use Rattle.std.proofs.Common.{◌≡◌, ℕ, zero, suc, ◌+◌, ◌-◌, ◌<◌, ◌==◌, true, not, Option, None, List, length, Ok, refl, sym, ap, arith}
 use Rattle.lsl_lex.specs.Kinds.{kind_of}
 use Rattle.lsl_lex.specs.declared.token_types.Token.{Token}
@@ -47,7 +47,7 @@ pub item_step : (limit : Option ℕ) (d : ℕ) (a b : Items) (ts rest : List Tok
 item_step limit d a b ts rest t e = rounds_step token_code not_end (next_item_r (item_r limit d))
     (item_less limit d) a b ts rest t e
 
--- each kind but the end of a block goes on in it
+-- each kind but the end of a block continues in it
 pub not_end_is : (k : Sort) → among (kind_of k) not_end ≡ not (kind_of k == kind_of BraceClose)
 not_end_is BraceClose = refl
 not_end_is _ = refl

@@ -23,7 +23,7 @@ use Rattle.lsl_read.proofs.Munches.{else_next, body_munches}
 use Rattle.lsl_read.proofs.Wholes.{else_tail, tail_of, tail_lone, tail_same, Whole, closed_whole, whole_solid, whole_or, sign_whole}
 use Rattle.lsl_read.proofs.BlockRules.{StatementWhole, Below, body_whole, block_solid}
 
--- an `else` where the statement before it lets it stand
+-- an `else` if the statement before it allows one
 abbrev checked_r : Bool → StmtRoom_r → Span → Expr → Stmt → TokenReader Stmt
 checked_r true h start test first ts = Ok (tree.If start test first, ts)
 checked_r false h start test first ts = else_r h start test first ts
@@ -32,7 +32,7 @@ abbrev else_heads : Bool → List ℕ
 else_heads true = []
 else_heads false = else_tail
 
--- where such a statement has been read, no `else` stands next, so the check is none
+-- after such a statement no `else` is next, so the check does nothing
 else_same : (limit : Option ℕ) (d : ℕ) (start : Span) (test : Expr) (ts : List Token)
     → then_r (body_r (stmt_room_r limit d))
     (λ first. checked_r (ends_open first) (stmt_room_r limit d) start test first) ts
@@ -55,7 +55,7 @@ module _ (limit : Option ℕ) (d D : ℕ) (lt : d < D) (b : Below limit d D) whe
       (body_r (stmt_room_r limit d)) (body_r (stmt_room_r None D)) (codes statement_heads)
   the_body = body_whole limit d D b
 
-  -- a body, and what is made of it, which ends as it does
+  -- a body, and what is built from it, which ends as it does
   made_rule : (g : Stmt → Stmt) → ((x : Stmt) → ends_open x ≡ ends_open (g x)) →
       Rule token_code probe (body (stmt_room_of limit d) >=> λ x. ret (g x))
       (body (stmt_room_of None D) >=> λ x. ret (g x))

@@ -1,4 +1,4 @@
--- A statement with what may go on behind it, and the ways to join such rules.
+-- A statement with what may follow it, and the ways to join such rules.
 use Rattle.std.proofs.Common.{◌≡◌, ℕ, Bool, true, false, cond, List, [], ◌∷◌, ◌++◌, refl, subst}
 use Rattle.lsl_lex.specs.declared.token_types.Token.{Token}
 use Rattle.lsl_tree.specs.Statements.{Stmt, ends_open}
@@ -18,7 +18,7 @@ use Rattle.lsl_read.proofs.ExpressionRules.{probe}
 abbrev pub else_tail : List ℕ
 else_tail = codes (ElseWord ∷ [])
 
--- an `else` goes on a statement that ends in an `if` without one
+-- an `else` continues a statement that ends in an `if` without one
 abbrev pub tail_of : Stmt → List ℕ
 tail_of a = cond (ends_open a) else_tail []
 

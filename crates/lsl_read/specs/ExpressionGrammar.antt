@@ -1,4 +1,4 @@
--- The grammar of expressions. Each rule is a language; the one with fewer constructs around it is handed in.
+-- The grammar of expressions. Each rule is a language; the one with fewer constructs around it is a parameter.
 use Rattle.std.specs.Prelude.{ℕ, zero, suc, Bool, true, false, nat_lt, Option, None, Some, List, [], ◌∷◌}
 use Rattle.lsl_lex.specs.declared.token_types.Token.{Token}
 use Rattle.lsl_tree.specs.Expressions as tree
@@ -44,7 +44,7 @@ listing close add none element =
 abbrev pub expressions : Sort → Language Expr → Language Exprs
 expressions close expr = listing close AndExpr NoExpr expr
 
--- what a construct that is opened here holds: expressions and operands, or nothing, where no construct may be opened
+-- the content of a construct that is opened here: expressions and operands, or nothing if no construct may be opened
 pub data Room : Type 1 where
   Full : Room
   Inside : (expr unary : Language Expr) → Room
@@ -100,7 +100,7 @@ integer = do
   n ← sign Int
   ret (tree.Int (integer_of n.sort) n.span)
 
--- '(' [ exprs ] ')' behind a name
+-- '(' [ exprs ] ')' after a name
 abbrev pub arguments : Room → Language Exprs
 arguments room = construct room (λ expr unary. do
   start ← sign ParenOpen
@@ -121,7 +121,7 @@ named room = do
 abbrev pub unary_rule : Room → Language Expr
 unary_rule room = prefix room ∣ step_before room ∣ group room ∣ list room ∣ string ∣ named room ∣ integer
 
--- an operand of this height may stand left of an operator, where heights are below the limit, if there is one
+-- an operand of this height may be to the left of an operator, with heights below the limit, if there is one
 abbrev pub fits : Option ℕ → Expr → Bool
 fits None left = true
 fits (Some limit) left = nat_lt (height left) limit
@@ -156,11 +156,11 @@ assignment room = do
 abbrev pub expr_rule : Option ℕ → Room → Language Expr
 expr_rule limit room = assignment room ∣ level limit (unary_rule room) levels
 
--- what stands inside at most so many more constructs
+-- the content of at most n more constructs
 abbrev pub room_of : Option ℕ → ℕ → Room
 room_of limit zero = Full
 room_of limit (suc d) = Inside (expr_rule limit (room_of limit d)) (unary_rule (room_of limit d))
 
--- an expression, with so many constructs in one another, and heights below the limit
+-- an expression, with constructs nested at most this deep, and heights below the limit
 unfoldable pub expr : Option ℕ → ℕ → Language Expr
 expr limit d = expr_rule limit (room_of limit d)

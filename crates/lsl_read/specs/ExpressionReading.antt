@@ -35,7 +35,7 @@ where_r ks p q = or_r token_code (codes ks) p q
 abbrev pub while_r : {A : Type 0} → List Sort → (A → TokenReader A) → A → TokenReader A
 while_r ks round a = rounds_r token_code (codes ks) round a
 
--- what would begin with these kinds stands too deep
+-- what would begin with these kinds is too deep
 abbrev pub shut_r : {T : Type 0} → List Sort → TokenReader T
 shut_r ks = deep_r token_code Unexpected (codes ks)
 
@@ -114,7 +114,7 @@ string_r = do
   t ← sign_r Str
   ret_r (tree.Str (text_of t.sort) t.span)
 
--- the last of the operands: where it isn't there either, an operand was due
+-- the last of the operands: if it isn't there either, an operand was due
 abbrev pub int_r : TokenReader Token
 int_r = one_r token_code OperandDue (codes (Int ∷ []))
 
@@ -169,7 +169,7 @@ level_rule_r limit unary (suc n) = do
   first ← level_rule_r limit unary n
   while_r (signs n) (next_operand_r limit (level_rule_r limit unary n) (signs n)) first
 
--- what stands behind an operand, within the tightest so many levels
+-- what follows an operand, within the n tightest levels
 abbrev pub behind_r : Option ℕ → TokenReader Expr → ℕ → Expr → TokenReader Expr
 behind_r limit unary zero left = ret_r left
 behind_r limit unary (suc n) left = do

@@ -16,6 +16,6 @@ abbrev pub Parses : {X Y : Type 0} → (X → Y × List Token) → Result X (Ref
 Parses view (Ok x) read = read ≡ Ok (view x)
 Parses view (Err e) read = Fails e read
 
--- what would begin here is too deep; where nothing would begin, that is why
+-- what would begin here is too deep; if nothing would begin, this is the reason
 abbrev pub too_deep_or_at : Bool → Why → List Token → Why × List Token
 too_deep_or_at begins why ts = cond begins (TooDeep, ts) (why, ts)

@@ -17,7 +17,7 @@ use Rattle.lsl_read.specs.StatementGrammar.{StmtRoom, block, stmt_room_of}
 abbrev pub added : {A : Type 0} → List A → A → List A
 added before next = before ++ next ∷ []
 
--- each as often as it stands there, in order
+-- each as often as it occurs, in order
 abbrev pub many : {A : Type 0} → Language A → List A → Language (List A)
 many element before = rounds (λ before. do
   next ← element
@@ -73,7 +73,7 @@ params = do
   start ← sign ParenOpen
   listing ParenClose added [] param
 
--- [ '=' simple ] ';' behind a global's name
+-- [ '=' simple ] ';' after a global's name
 abbrev pub global_behind : Kind → Named → Language Header
 global_behind kind name =
     (do
@@ -85,7 +85,7 @@ global_behind kind name =
       end ← sign Semicolon
       ret (tree.Global kind name None))
 
--- '(' [ params ] ')' block behind a function's name
+-- '(' [ params ] ')' block after a function's name
 abbrev pub function_behind : StmtRoom → Option Kind → Named → Language Header
 function_behind room kind name = do
   all ← params
@@ -137,6 +137,6 @@ script_rule room = do
   states ← many (state room) []
   ret (record { headers = headers; default = start; states = states })
 
--- a script, with so many constructs in one another, and heights below the limit
+-- a script, with constructs nested at most this deep, and heights below the limit
 unfoldable pub script : Option ℕ → ℕ → Language Tree
 script limit d = script_rule (stmt_room_of limit d)

@@ -139,7 +139,7 @@ script_rule_r room = do
 unfoldable pub script_r : Option ℕ → ℕ → TokenReader Tree
 script_r limit d = script_rule_r (stmt_room_r limit d)
 
--- nothing stands behind a script
+-- nothing follows a script
 abbrev pub end_r : Tree → TokenReader Tree
 end_r a [] = Ok (a, [])
 end_r a (t ∷ ts) = Err (Unexpected, t ∷ ts)

@@ -1,4 +1,5 @@
--- The grammar of statements and blocks. Each rule is a language; the one with fewer constructs around it is handed in.
+-- The grammar of statements and blocks. Each rule is a language; the one with fewer constructs around it is a
+-- parameter.
 use Rattle.std.specs.Prelude.{ℕ, zero, suc, Bool, true, false, Option, None, Some}
 use Rattle.lsl_text.specs.declared.Span.{Span}
 use Rattle.lsl_tree.specs.declared.statement.StateName.TheVariants as state
@@ -11,7 +12,7 @@ use Rattle.lsl_lex.specs.declared.token_types.Sort.TheVariants.{DefaultWord, Sta
 use Rattle.lsl_signs.specs.Kinds.{Name, types, type_of, name_of}
 use Rattle.lsl_read.specs.ExpressionGrammar.{Language, any, sign, expressions, expr}
 
--- what a construct that is opened here holds: what stands in a block, and statements; or nothing
+-- the content of a construct that is opened here: the items of a block, and statements; or nothing
 pub data StmtRoom : Type 1 where
   Shut : StmtRoom
   Holds : (item : Language Item) → (statement : Language Stmt) → StmtRoom
@@ -39,7 +40,7 @@ braces room = do
   all ← block room
   ret (tree.Block all)
 
--- [ 'else' stmt ]: none where an `if` without one stands at the end, which would be the nearest
+-- [ 'else' stmt ]: none after an `if` without one, which would be the nearest
 abbrev pub else_behind : Bool → StmtRoom → Span → Expr → Stmt → Language Stmt
 else_behind true room start test first = ret (tree.If start test first)
 else_behind false room start test first =
@@ -179,7 +180,7 @@ statement_item statement = do
 abbrev pub item_rule : Language Expr → Language Stmt → Language Item
 item_rule expr statement = declaration expr ∣ label ∣ statement_item statement
 
--- what stands inside at most so many more constructs
+-- the content of at most n more constructs
 abbrev pub stmt_room_of : Option ℕ → ℕ → StmtRoom
 stmt_room_of limit zero = Shut
 stmt_room_of limit (suc d) = Holds (item_rule (expr limit d)

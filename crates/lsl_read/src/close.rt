@@ -19,7 +19,7 @@ pub enum Close {
 }
 
 impl Close {
-    /// Whether it stands next.
+    /// Whether it is next.
     pub fn is_next(self, tokens: &[Token]) -> bool
         ensures { result ≡ begins token_code (codes (sign_of self ∷ [])) tokens.now }
     {

@@ -1,7 +1,7 @@
 //! Expressions, one function for each rule of the grammar.
 //!
-//! `room` is how many constructs may still be opened here. The next token decides, and before an assignment the
-//! next two.
+//! `room` is the number of constructs that may still be opened here. The next token decides, and before an assignment
+//! the next two.
 
 ghost use Rattle.std.specs.Prelude.{◌≡◌, ◌<◌, ℕ, [], ◌∷◌, None, Some, Ok, true, false, IfSome};
 ghost use Rattle.lsl_grammar.specs.Reading.{pair_next, begins};
@@ -23,7 +23,7 @@ use lsl_text::Refusal;
 use lsl_tree::Expr;
 use std::alloc::Global;
 
-/// Whether a name and the sign of an assignment stand next.
+/// Whether a name and the sign of an assignment are next.
 fn assigns(tokens: &[Token]) -> bool
     ensures { result ≡ pair_next token_code (codes (Name ∷ [])) (codes assign_signs) tokens.now }
 {
@@ -159,7 +159,7 @@ fn string(tokens: &[Token]) -> Found<'_, Operand>
     Ok((Operand::string(text, token.span), rest))
 }
 
-/// The last of the operands: where it isn't there either, an operand was due.
+/// The last of the operands: if it isn't there either, an operand was due.
 fn integer(tokens: &[Token]) -> Found<'_, Operand>
     ensures { Parses (λ x. (expr_of x.0.expr, x.1.now)) result (integer_r tokens.now) }
 {
@@ -170,7 +170,7 @@ fn integer(tokens: &[Token]) -> Found<'_, Operand>
     ))
 }
 
-/// A name with `++`, `--` or arguments behind it, or alone.
+/// A name with `++`, `--` or arguments after it, or alone.
 #[cycle(expression)]
 fn named(alloc: Global, room: u32, tokens: &[Token]) -> Found<'_, Operand>
     ensures { Parses (λ x. (expr_of x.0.expr, x.1.now)) result (named_r (room_r (Some height_limit) room) tokens.now) }
@@ -240,7 +240,7 @@ fn series(alloc: Global, room: u32, tokens: &[Token]) -> Found<'_, Operands>
     Ok((all, rest))
 }
 
-/// An operator of the level, which stands next, and its right operand.
+/// An operator of the level, which is next, and its right operand.
 #[cycle(expression)]
 fn operation(
     alloc: Global,
@@ -279,7 +279,7 @@ fn level(alloc: Global, room: u32, n: u32, tokens: &[Token]) -> Found<'_, Operan
     Ok((left, rest))
 }
 
-/// The level of the operator that stands next, where it is one of the tightest `n`.
+/// The level of the next operator, if it is one of the tightest `n`.
 fn next_level(tokens: &[Token], n: u32) -> Option<u32>
     ensures some { IfSome result (λ k. (k < n) × (begins token_code (codes (signs k)) tokens.now ≡ true)) }
     ensures none { result ≡ None → (k : ℕ) → k < n → begins token_code (codes (signs k)) tokens.now ≡ false }

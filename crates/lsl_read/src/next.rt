@@ -1,4 +1,4 @@
-//! What stands next.
+//! Tests of the next token.
 
 ghost use Rattle.std.specs.Prelude.{◌≡◌, [], ◌∷◌};
 ghost use Rattle.lsl_lex.specs.declared.token_types.Sort.TheVariants.{IfWord, ElseWord, WhileWord, DoWord, ForWord, JumpWord, ReturnWord, StateWord, DefaultWord, Assign, At, Minus, ParenOpen, ParenClose, BracketOpen, BracketClose, BraceOpen, BraceClose, Comma, Semicolon};
@@ -16,7 +16,7 @@ macro_rules! stands {
     };
 }
 
-/// Whether a TYPE stands next.
+/// Whether a TYPE is next.
 pub fn is_type(tokens: &[Token]) -> bool
     ensures { result ≡ begins token_code (codes types) tokens.now }
 {
@@ -26,28 +26,28 @@ pub fn is_type(tokens: &[Token]) -> bool
     )
 }
 
-/// Whether a NAME stands next.
+/// Whether a NAME is next.
 pub fn is_name(tokens: &[Token]) -> bool
     ensures { result ≡ begins token_code (codes (Name ∷ [])) tokens.now }
 {
     stands!(tokens, Sort::Name(_))
 }
 
-/// Whether the sign of a prefix operator stands next.
+/// Whether the sign of a prefix operator is next.
 pub fn is_prefix(tokens: &[Token]) -> bool
     ensures { result ≡ begins token_code (codes prefix_signs) tokens.now }
 {
     stands!(tokens, Sort::Minus | Sort::Bang | Sort::Tilde)
 }
 
-/// Whether `++` or `--` stands next.
+/// Whether `++` or `--` is next.
 pub fn is_step(tokens: &[Token]) -> bool
     ensures { result ≡ begins token_code (codes step_signs) tokens.now }
 {
     stands!(tokens, Sort::PlusPlus | Sort::MinusMinus)
 }
 
-/// Whether the sign of an assignment stands next.
+/// Whether the sign of an assignment is next.
 pub fn is_assignment(tokens: &[Token]) -> bool
     ensures { result ≡ begins token_code (codes assign_signs) tokens.now }
 {
@@ -62,154 +62,154 @@ pub fn is_assignment(tokens: &[Token]) -> bool
     )
 }
 
-/// Whether `=` stands next.
+/// Whether `=` is next.
 pub fn is_equals(tokens: &[Token]) -> bool
     ensures { result ≡ begins token_code (codes (Assign ∷ [])) tokens.now }
 {
     stands!(tokens, Sort::Assign)
 }
 
-/// Whether `,` stands next.
+/// Whether `,` is next.
 pub fn is_comma(tokens: &[Token]) -> bool
     ensures { result ≡ begins token_code (codes (Comma ∷ [])) tokens.now }
 {
     stands!(tokens, Sort::Comma)
 }
 
-/// Whether `;` stands next.
+/// Whether `;` is next.
 pub fn is_semicolon(tokens: &[Token]) -> bool
     ensures { result ≡ begins token_code (codes (Semicolon ∷ [])) tokens.now }
 {
     stands!(tokens, Sort::Semicolon)
 }
 
-/// Whether `(` stands next.
+/// Whether `(` is next.
 pub fn is_paren_open(tokens: &[Token]) -> bool
     ensures { result ≡ begins token_code (codes (ParenOpen ∷ [])) tokens.now }
 {
     stands!(tokens, Sort::ParenOpen)
 }
 
-/// Whether `)` stands next.
+/// Whether `)` is next.
 pub fn is_paren_close(tokens: &[Token]) -> bool
     ensures { result ≡ begins token_code (codes (ParenClose ∷ [])) tokens.now }
 {
     stands!(tokens, Sort::ParenClose)
 }
 
-/// Whether `[` stands next.
+/// Whether `[` is next.
 pub fn is_bracket_open(tokens: &[Token]) -> bool
     ensures { result ≡ begins token_code (codes (BracketOpen ∷ [])) tokens.now }
 {
     stands!(tokens, Sort::BracketOpen)
 }
 
-/// Whether `]` stands next.
+/// Whether `]` is next.
 pub fn is_bracket_close(tokens: &[Token]) -> bool
     ensures { result ≡ begins token_code (codes (BracketClose ∷ [])) tokens.now }
 {
     stands!(tokens, Sort::BracketClose)
 }
 
-/// Whether `{` stands next.
+/// Whether `{` is next.
 pub fn is_brace_open(tokens: &[Token]) -> bool
     ensures { result ≡ begins token_code (codes (BraceOpen ∷ [])) tokens.now }
 {
     stands!(tokens, Sort::BraceOpen)
 }
 
-/// Whether `@` stands next.
+/// Whether `@` is next.
 pub fn is_at(tokens: &[Token]) -> bool
     ensures { result ≡ begins token_code (codes (At ∷ [])) tokens.now }
 {
     stands!(tokens, Sort::At)
 }
 
-/// Whether `-` stands next.
+/// Whether `-` is next.
 pub fn is_minus(tokens: &[Token]) -> bool
     ensures { result ≡ begins token_code (codes (Minus ∷ [])) tokens.now }
 {
     stands!(tokens, Sort::Minus)
 }
 
-/// Whether a STRING stands next.
+/// Whether a STRING is next.
 pub fn is_string(tokens: &[Token]) -> bool
     ensures { result ≡ begins token_code (codes (Str ∷ [])) tokens.now }
 {
     stands!(tokens, Sort::Str(_))
 }
 
-/// Whether `else` stands next.
+/// Whether `else` is next.
 pub fn is_else(tokens: &[Token]) -> bool
     ensures { result ≡ begins token_code (codes (ElseWord ∷ [])) tokens.now }
 {
     stands!(tokens, Sort::ElseWord)
 }
 
-/// Whether `state` stands next.
+/// Whether `state` is next.
 pub fn is_state(tokens: &[Token]) -> bool
     ensures { result ≡ begins token_code (codes (StateWord ∷ [])) tokens.now }
 {
     stands!(tokens, Sort::StateWord)
 }
 
-/// Whether an INT stands next.
+/// Whether an INT is next.
 pub fn is_int(tokens: &[Token]) -> bool
     ensures { result ≡ begins token_code (codes (Int ∷ [])) tokens.now }
 {
     stands!(tokens, Sort::Int(_))
 }
 
-/// Whether `}` stands next.
+/// Whether `}` is next.
 pub fn is_brace_close(tokens: &[Token]) -> bool
     ensures { result ≡ begins token_code (codes (BraceClose ∷ [])) tokens.now }
 {
     stands!(tokens, Sort::BraceClose)
 }
 
-/// Whether `if` stands next.
+/// Whether `if` is next.
 pub fn is_if(tokens: &[Token]) -> bool
     ensures { result ≡ begins token_code (codes (IfWord ∷ [])) tokens.now }
 {
     stands!(tokens, Sort::IfWord)
 }
 
-/// Whether `while` stands next.
+/// Whether `while` is next.
 pub fn is_while(tokens: &[Token]) -> bool
     ensures { result ≡ begins token_code (codes (WhileWord ∷ [])) tokens.now }
 {
     stands!(tokens, Sort::WhileWord)
 }
 
-/// Whether `do` stands next.
+/// Whether `do` is next.
 pub fn is_do(tokens: &[Token]) -> bool
     ensures { result ≡ begins token_code (codes (DoWord ∷ [])) tokens.now }
 {
     stands!(tokens, Sort::DoWord)
 }
 
-/// Whether `for` stands next.
+/// Whether `for` is next.
 pub fn is_for(tokens: &[Token]) -> bool
     ensures { result ≡ begins token_code (codes (ForWord ∷ [])) tokens.now }
 {
     stands!(tokens, Sort::ForWord)
 }
 
-/// Whether `jump` stands next.
+/// Whether `jump` is next.
 pub fn is_jump(tokens: &[Token]) -> bool
     ensures { result ≡ begins token_code (codes (JumpWord ∷ [])) tokens.now }
 {
     stands!(tokens, Sort::JumpWord)
 }
 
-/// Whether `return` stands next.
+/// Whether `return` is next.
 pub fn is_return(tokens: &[Token]) -> bool
     ensures { result ≡ begins token_code (codes (ReturnWord ∷ [])) tokens.now }
 {
     stands!(tokens, Sort::ReturnWord)
 }
 
-/// Whether `default` stands next.
+/// Whether `default` is next.
 pub fn is_default(tokens: &[Token]) -> bool
     ensures { result ≡ begins token_code (codes (DefaultWord ∷ [])) tokens.now }
 {
@@ -244,7 +244,7 @@ pub fn is_statement(tokens: &[Token]) -> bool
     }
 }
 
-/// Whether something stands next, and it isn't the end of a block.
+/// Whether there is a next token, and it isn't the end of a block.
 pub fn block_goes_on(tokens: &[Token]) -> bool
     ensures { result ≡ begins token_code not_end tokens.now }
 {

@@ -58,7 +58,7 @@ impl Operands {
 }
 
 impl Operand {
-    /// Whether it may stand left of an operator.
+    /// Whether it may be to the left of an operator.
     pub fn may_be_left(&self) -> bool
         ensures { result ≡ fits (Some height_limit) (expr_of self.now.expr) }
     {

@@ -136,7 +136,7 @@ fn params(alloc: Memory, tokens: &[Token]) -> Found<'_, Vec<Param>>
     }
 }
 
-/// What stands behind the name of a global.
+/// What follows the name of a global.
 fn global_behind<'a>(
     alloc: Memory,
     kind: Kind,
@@ -162,7 +162,7 @@ fn global_behind<'a>(
     }
 }
 
-/// What stands behind the name of a function.
+/// What follows the name of a function.
 fn function_behind<'a>(
     alloc: Memory,
     room: u32,
@@ -205,7 +205,7 @@ fn header(alloc: Memory, room: u32, tokens: &[Token]) -> Found<'_, Header>
     }
 }
 
-/// Globals and functions, as many as stand here.
+/// Globals and functions, as many as there are.
 fn headers(alloc: Memory, room: u32, tokens: &[Token]) -> Found<'_, Vec<Header>>
     ensures { Parses (λ x. (map header_of x.0.items, x.1.now)) result
         (many_r header_heads (header_r (stmt_room_r (Some height_limit) room)) [] tokens.now) }
@@ -231,7 +231,7 @@ fn handler(alloc: Memory, room: u32, tokens: &[Token]) -> Found<'_, Handler>
     Ok((Handler { name, params, body }, rest))
 }
 
-/// More handlers behind the first, as many as stand here.
+/// More handlers after the first, as many as there are.
 fn more_handlers(
     alloc: Memory,
     room: u32,
@@ -276,7 +276,7 @@ fn state(alloc: Memory, room: u32, tokens: &[Token]) -> Found<'_, State>
     Ok((State { name, handlers }, rest))
 }
 
-/// States, as many as stand here.
+/// States, as many as there are.
 fn states(alloc: Memory, room: u32, tokens: &[Token]) -> Found<'_, Vec<State>>
     ensures { Parses (λ x. (map state_of x.0.items, x.1.now)) result
         (many_r (StateWord ∷ []) (state_r (stmt_room_r (Some height_limit) room)) [] tokens.now) }
@@ -291,7 +291,7 @@ fn states(alloc: Memory, room: u32, tokens: &[Token]) -> Found<'_, Vec<State>>
     Ok((all, rest))
 }
 
-/// A script, and what stands behind it.
+/// A script, and what follows it.
 pub fn script(alloc: Memory, room: u32, tokens: &[Token]) -> Found<'_, Tree>
     ensures { Parses (λ x. (tree_of x.0, x.1.now)) result (script_r (Some height_limit) room tokens.now) }
 {

@@ -1,6 +1,6 @@
 //! Statements and blocks, one function for each rule of the grammar.
 //!
-//! `room` is how many constructs may still be opened here.
+//! `room` is the number of constructs that may still be opened here.
 
 ghost use Rattle.std.specs.Prelude.{◌≡◌, [], ◌∷◌, Some, Ok};
 ghost use Rattle.lsl_grammar.specs.Language.{among};
@@ -52,7 +52,7 @@ fn braces(alloc: Global, room: u32, tokens: &[Token]) -> Found<'_, Stmt>
     Ok((Stmt::Block { items }, rest))
 }
 
-/// A block: what stands between its braces.
+/// A block: what is between its braces.
 #[cycle(statement)]
 pub fn block(alloc: Global, room: u32, tokens: &[Token]) -> Found<'_, Vec<Item>>
     ensures { Parses (λ x. (items_of x.0.items, x.1.now)) result
@@ -71,7 +71,7 @@ pub fn block(alloc: Global, room: u32, tokens: &[Token]) -> Found<'_, Vec<Item>>
     Ok((all, rest))
 }
 
-/// What stands in a block up to its end.
+/// The items of a block up to its end.
 #[cycle(statement)]
 fn items(alloc: Global, room: u32, tokens: &[Token]) -> Found<'_, Vec<Item>>
     ensures { Parses (λ x. (items_of x.0.items, x.1.now)) result

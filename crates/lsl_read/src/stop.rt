@@ -14,10 +14,10 @@ pub struct Stop<'a> {
     pub rest: &'a [Token],
 }
 
-/// What was read and the tokens behind it, or where reading stopped.
+/// What was read and the tokens after it, or where reading stopped.
 pub type Found<'a, T> = Result<(T, &'a [Token]), Refusal<Stop<'a>>>;
 
-/// What would begin here is too deep; where nothing would begin, that is why.
+/// What would begin here is too deep; if nothing would begin, `why` is the reason.
 pub fn too_deep_or(tokens: &[Token], begins: bool, why: Why) -> Stop<'_>
     ensures { (result.why, result.rest.now) ≡ too_deep_or_at begins why tokens.now }
 {

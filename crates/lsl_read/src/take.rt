@@ -1,4 +1,4 @@
-//! One token taken: what must stand next.
+//! Taking one token, which must be next.
 
 ghost use Rattle.std.specs.Prelude.{◌≡◌, ℕ, List, [], ◌∷◌};
 ghost use Rattle.lsl_lex.specs.declared.token_types.Sort.TheVariants.{IfWord, ElseWord, WhileWord, DoWord, ForWord, JumpWord, ReturnWord, StateWord, DefaultWord, Minus, Assign, Comma, Semicolon, At, ParenOpen, ParenClose, BracketOpen, BracketClose, BraceOpen, BraceClose};
@@ -14,7 +14,7 @@ use lsl_grammar::Why;
 use lsl_lex::Token;
 use lsl_text::Refusal;
 
-/// The next token, which must be one that was looked for and found.
+/// The next token, which must be the one that was looked for and found.
 fn taken(tokens: &[Token], stands: bool, why: Why) -> Found<'_, &Token>
     ensures { (kinds : List ℕ) → stands ≡ begins token_code kinds tokens.now
         → Parses (λ x. (x.0.now, x.1.now)) result (one_r token_code why kinds tokens.now) }

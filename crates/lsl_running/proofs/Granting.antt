@@ -1,4 +1,4 @@
--- What it tells that a script got a limit.
+-- What follows if a script got a limit.
 use Rattle.std.proofs.Common.{◌≡◌, ℕ, ◌+◌, ◌<◌, ◌≤◌, ℤ, pos, negsuc, Bool, true, false, ◌&&◌, cond, nat_le, Some, None, refl, arith}
 use Rattle.std.proofs.lemmas.Bool.Decides.{nat_tests}
 use Rattle.lsl_running.specs.Charging.{default_limit}
@@ -8,7 +8,7 @@ both : (a b : Bool) → (a && b) ≡ true → (a ≡ true) × (b ≡ true)
 both true b e = (refl, e)
 both false b e = absurd cc
 
--- the charge and an integer are within it, and it is no greater than the first one
+-- the charge and an integer are within it, and it is at most the first one
 pub granted_told : (n : ℤ) (charge m : ℕ) → granted n charge ≡ Some m
     → (charge + 8 ≤ m) × (m ≤ default_limit)
 granted_told (pos n) charge m got = by_test (nat_le (charge + 8) n && nat_le n default_limit) refl got

@@ -22,12 +22,12 @@ pub data CallForm : Type 0 where
   GetLimit : CallForm
   -- the host is asked
   Asked : CallForm
-  -- the host is asked, and a tick passes behind its answer
+  -- the host is asked, and a tick passes after its answer
   AskedAndWaits : CallForm
   -- the handler ends with a reset
   Resets : CallForm
 
--- a line for each home, and none that stands for another
+-- a line for each home
 abbrev pub form_at_home : Home → CallForm
 form_at_home home.Pure = Pure
 form_at_home home.UsedMemory = UsedMemory

@@ -8,7 +8,7 @@ use Rattle.lsl_running.specs.declared.kept.Kept.{Kept}
 abbrev pub script_charge : ℕ
 script_charge = 1024
 
--- each active call is charged this much beside its slots
+-- each active call is charged this much besides its slots
 abbrev pub call_charge : ℕ
 call_charge = 32
 
@@ -23,7 +23,7 @@ charges_of values = sum_by charge_of values
 abbrev pub most_charged : ℕ
 most_charged = 18446744073709551615
 
--- so much is charged, and more beside it, as far as 64 bits go
+-- this much is charged, and more besides, saturated at 64 bits
 abbrev pub charged_with : ℕ → ℕ → ℕ
 charged_with charged more = min (charged + more) most_charged
 
@@ -32,8 +32,8 @@ abbrev pub hold_all : ℕ → List Value → ℕ
 hold_all held [] = held
 hold_all held (v ∷ vs) = hold_all held vs + charge_of v
 
--- all that is charged where the outer calls and the waiting values hold this much: the call in hand with its
--- slots, and the globals
+-- all that is charged if the outer calls and the waiting values hold this much: the current call with its slots, and
+-- the globals
 abbrev pub used : ℕ → List Value → Kept → ℕ
 used held slots kept = held + call_charge + charges_of slots + charges_of kept.globals
 

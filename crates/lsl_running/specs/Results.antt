@@ -1,4 +1,4 @@
--- What comes of a handler: the same words for the meaning of a script's text and for a run of its code.
+-- The result of a handler: the same words for the meaning of a script's text and for a run of its code.
 use Rattle.std.specs.Prelude.{ℕ, List}
 use Rattle.lsl_value.specs.declared.names.BuiltinId.{BuiltinId}
 use Rattle.lsl_value.specs.declared.tagged.Value.{Value}
@@ -6,8 +6,7 @@ use Rattle.lsl_running.specs.declared.ends.Fault.{Fault}
 use Rattle.lsl_running.specs.declared.ends.Outcome.{Outcome}
 use Rattle.lsl_running.specs.declared.kept.Kept.{Kept}
 
--- an active call: the number of the function or handler, what its slots hold, and the line of the text at which
--- it stands
+-- an active call: the number of the function or handler, what its slots hold, and its current line in the text
 pub record ActiveCall : Type 0 where
   pub function : ℕ
   pub slots : List Value
@@ -15,7 +14,7 @@ pub record ActiveCall : Type 0 where
 
 -- for a number of ticks and a list of answers
 pub data Whole : Type 0 where
-  -- the handler has ended so, with these globals and this limit
+  -- the handler has ended this way, with these globals and this limit
   Ends : Outcome → Kept → Whole
   -- the answers are used up, and this call is asked for
   Asks : BuiltinId → List Value → Whole
@@ -23,5 +22,5 @@ pub data Whole : Type 0 where
   Cut : List ActiveCall → Whole
   -- the script stops for good
   Fails : Fault → Whole
-  -- no program that was checked comes here, nor an answer that its call gives
+  -- no checked program gets here, nor an answer that its call gives
   Lost : Whole

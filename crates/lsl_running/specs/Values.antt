@@ -28,6 +28,5 @@ unary_value op v = value.Int (unary_of op (integer_of v))
 abbrev pub binary_value : BinaryOp → Value → Value → Option Value
 binary_value op left right = cond (divides_by_zero op right) None (Some (binary_of op left right))
 
--- the list of these elements
 abbrev pub list_value : List Value → Value
 list_value values = value.List (flat_map atoms_of values)

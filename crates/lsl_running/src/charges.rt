@@ -5,13 +5,13 @@ ghost use Rattle.lsl_running.specs.Charging.{charged_with, charges_of};
 
 use lsl_value::{Value, charge};
 
-/// What a script is charged beside its globals and its calls.
+/// The charge of a script for itself, besides its globals and its calls.
 pub const SCRIPT_CHARGE: u64 = 1_024;
 
-/// What a call is charged beside its slots.
+/// The charge of a call for itself, besides its slots.
 pub const CALL_CHARGE: u64 = 32;
 
-/// What is charged so far, and these values beside it, as far as 64 bits go. Takes no memory; walks the values.
+/// What is charged so far and for these values, saturated at 64 bits. Takes no memory; walks the values.
 #[tactic(auto, using(std::proofs::lemmas::List::Sums::sum_by_more))]
 pub fn charged_with_values(charged: u64, values: &[Value]) -> u64
     ensures { result ≡ charged_with charged (charges_of values.now) }

@@ -11,7 +11,7 @@ pub enum Fault {
     TooManyListens,
 }
 
-/// How a handler ends that is not stopped.
+/// How a handler ends that isn't stopped.
 #[derive(Clone, Copy, Debug, PartialEq, Eq)]
 pub enum Outcome {
     Return,

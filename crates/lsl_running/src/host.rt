@@ -9,7 +9,7 @@ use lsl_value::{BuiltinId, Value};
 use std::alloc::Global;
 use std::marker::Model;
 
-/// A host call that is asked for. It is one pointer wide, so that it moves at little cost, and its room serves again.
+/// A pending host call. It is one pointer wide, so that it moves at little cost, and its buffer is reused.
 #[derive(Debug, Drop)]
 pub struct Call {
     asked: Box<Asked>,
@@ -30,7 +30,7 @@ impl Model for Call {
 }
 
 impl Call {
-    /// A call with these arguments. Takes memory for its room.
+    /// A call with these arguments. Takes memory for its buffer.
     pub fn new(alloc: Global, id: BuiltinId, args: Vec<Value>) -> Result<Call, NoMemory>
         ensures id { IfOk result (λ call. call.id ≡ id) }
         ensures args { IfOk result (λ call. call.args ≡ args.items) }
@@ -40,7 +40,7 @@ impl Call {
         })
     }
 
-    /// The call that it is. Takes no memory.
+    /// The built-in call. Takes no memory.
     #[inline(always)]
     pub fn id(&self) -> BuiltinId
         ensures { result ≡ self.now.id }
@@ -56,7 +56,7 @@ impl Call {
         self.asked.args.as_slice()
     }
 
-    /// Becomes this call, with this argument if there is one. Takes memory only where its room was never so large.
+    /// Changes to this call, with this argument if there is one. Takes memory only if its buffer was never this large.
     #[inline(always)]
     pub fn renew(&mut self, id: BuiltinId, arg: Option<Value>) -> Result<(), NoMemory>
         ensures id { OnOk result (self.new.id ≡ id) }
@@ -70,7 +70,7 @@ impl Call {
         Ok(())
     }
 
-    /// Drops its arguments, and keeps their room. Takes no memory.
+    /// Drops its arguments, and keeps their buffer. Takes no memory.
     #[inline(always)]
     pub fn clear(&mut self)
         ensures id { self.new.id ≡ self.old.id }
@@ -80,7 +80,7 @@ impl Call {
     }
 }
 
-// An integer takes no call.
+// No call is made for an integer.
 #[inline(always)]
 fn drop_all(values: &mut Vec<Value>)
     ensures { values.new.items ≡ [] }
@@ -93,7 +93,7 @@ fn drop_all(values: &mut Vec<Value>)
     }
 }
 
-/// What a host call is answered.
+/// The answer to a host call.
 #[derive(Drop)]
 pub enum Reply {
     /// the call's value, and none where it gives none

@@ -8,8 +8,8 @@ use lsl_value::INT_CHARGE;
 /// A script's limit at its start, and the greatest one.
 pub const DEFAULT_LIMIT: u32 = 65_536;
 
-/// The limit that a script gets by asking for this one, while it is charged so much. It gets none where it wouldn't
-/// be charged within it with the answer too, and none above the greatest. Takes no memory.
+/// The limit that a script gets by asking for this one, with this charge. It gets none if, with the answer, it would be
+/// charged more than that, and none above the greatest. Takes no memory.
 pub fn granted_limit(asked: i32, charge: u64) -> Option<u32>
     ensures { result ≡ granted asked charge }
 {

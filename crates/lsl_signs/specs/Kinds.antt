@@ -9,7 +9,7 @@ use Rattle.lsl_value.specs.declared.tagged.Kind.{Kind}
 use Rattle.lsl_value.specs.declared.tagged.Kind.TheVariants as value
 use Rattle.lsl_tree.specs.declared.expression.Name.{Name as Named}
 
--- a symbol is a sort, of which the kind counts alone: these stand for each name, integer and string
+-- a symbol is a sort, of which the kind counts alone: these represent each name, integer and string
 abbrev pub Name : Sort
 Name = sort.Name []
 

@@ -1,4 +1,4 @@
--- The signs of the grammar and the operators that they stand for.
+-- The signs of the grammar and the operators that they mean.
 use Rattle.std.specs.Prelude.{ℕ, zero, suc, cond, Option, None, Some, List, [], ◌∷◌}
 use Rattle.lsl_grammar.specs.Language.{among}
 use Rattle.lsl_lex.specs.Kinds.{kind_of}
@@ -58,7 +58,7 @@ signs (suc (suc (suc (suc (suc (suc (suc zero))))))) = Or ∷ []
 signs (suc (suc (suc (suc (suc (suc (suc (suc zero)))))))) = AndAnd ∷ OrOr ∷ []
 signs (suc (suc (suc (suc (suc (suc (suc (suc (suc n))))))))) = []
 
--- the level of a sign, among the tightest so many
+-- the level of a sign, among the n tightest
 abbrev pub level_of : ℕ → Sort → Option ℕ
 level_of zero sign = None
 level_of (suc n) sign = cond (among (kind_of sign) (codes (signs n))) (Some n) (level_of n sign)

@@ -1,4 +1,4 @@
-//! The limits of a script, and the signs of its grammar with what they stand for.
+//! The limits of a script, and the signs of its grammar with their meaning.
 #![tactic(auto)]
 
 mod limits;

@@ -1,4 +1,4 @@
-//! The signs of the grammar, and the operators and kinds that they stand for.
+//! The signs of the grammar, and the operators and kinds that they mean.
 
 ghost use Rattle.std.specs.Prelude.{◌≡◌};
 ghost use Rattle.lsl_signs.specs.Kinds.{type_of};

@@ -27,7 +27,7 @@ no_operand_without_value o ts h = go h.0.0 h.0.1 h.0.3
     go : (g : Signature) → Some (signature_of_builtin OwnerSay) ≡ Some g → is_some g.result ≡ true → ⊥
     go g e f = let same : None ≡ g.result = cc in let t : false ≡ true = ap is_some same ∙ f in absurd (cc)
 
--- and a call that stands as a statement of its own gives none
+-- and a call used as a statement of its own gives none
 no_value_performed : (o : Outline) (ts : Nodes) → IsShapedEffect o (effect.Call (Builtin GetOwner) 1 ts) → ⊥
 no_value_performed o ts h = go h.0.0 h.0.1 h.0.3
   where

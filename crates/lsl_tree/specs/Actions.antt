@@ -40,7 +40,7 @@ abbrev mutual
   action_of (form.ReturnValue v) = ReturnValue (node_of v)
   action_of (form.State n) = State n
 
-  -- these behind others
+  -- these after others
   pub row_actions : {m : _} → declared.Row_of-Action m → Actions → Actions
   row_actions declared.end_of-Action es = es
   row_actions (declared.more_of-Action e rest) es = row_actions rest (AndAction es (action_of e))

@@ -1,4 +1,4 @@
--- An expression that stands as a statement, without where it lies in memory.
+-- An expression used as a statement, without where it lies in memory.
 use Rattle.std.specs.Prelude.{ℕ}
 use Rattle.lsl_tree.specs.declared.program_node.Callee.{Callee}
 use Rattle.lsl_tree.specs.declared.program_action.Effect as declared

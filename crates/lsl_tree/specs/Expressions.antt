@@ -45,7 +45,7 @@ abbrev mutual
   expr_of (declared.Binary' o s p a q b) = Binary o s (expr_of a) (expr_of b)
   expr_of (declared.Assign' n o s p e) = Assign n o s (expr_of e)
 
-  -- these behind others
+  -- these after others
   pub row_exprs : {m : _} → declared.Row_of-Expr m → Exprs → Exprs
   row_exprs declared.end_of-Expr es = es
   row_exprs (declared.more_of-Expr e rest) es = row_exprs rest (AndExpr es (expr_of e))
@@ -58,7 +58,7 @@ abbrev pub exprs_of : List declared.Expr → Exprs
 exprs_of xs = exprs_behind xs NoExpr
 
 -- a literal or a variable has height 1, and any other node one more than its highest part, or 1 where it has none;
--- parentheses are no node
+-- parentheses aren't a node
 abbrev mutual
   pub height : Expr → ℕ
   height (Int n s) = 1

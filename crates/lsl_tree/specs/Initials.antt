@@ -1,4 +1,4 @@
--- What globals begin with: a global's initial value names only constants and earlier globals.
+-- The initial values of globals: each names only constants and earlier globals.
 use Rattle.std.specs.Prelude.{◌≡◌, ◌≢◌, List, [], ◌∷◌, ◌++◌, Some, true, map, slice_get, All}
 use Rattle.lsl_value.specs.OperatorRows.{casts_implicitly_of}
 use Rattle.lsl_value.specs.Values.{kind_of}
@@ -25,7 +25,7 @@ initial_kind_of (ListLiteral ps) = kind.List
 abbrev pub global_kinds : Program → List Kind
 global_kinds p = map initial_kind_of p.globals
 
--- behind globals of these kinds
+-- after globals of these kinds
 module _ (before : List Kind) where
   abbrev pub IsKindedPart : Part → Type 0
   IsKindedPart (part.Int n) = Unit {0}
@@ -34,17 +34,17 @@ module _ (before : List Kind) where
   IsKindedPart (part.Constant i k) = kind_of (constant_value_of i) ≡ k
   IsKindedPart (part.Global n k) = slice_get before n ≡ Some k
 
-  -- a list's element is no list
+  -- a list's element isn't a list
   abbrev pub IsKindedElement : Part → Type 0
   IsKindedElement p = (part_kind_of p ≢ kind.List) × IsKindedPart p
 
-  -- nobody writes a cast there: a string stands for a key, or a key for a string
+  -- the only cast there is implicit: a string becomes a key, or a key a string
   abbrev pub IsKindedInitial : Initial → Type 0
   IsKindedInitial (Single p) = IsKindedPart p
   IsKindedInitial (Cast k p) = (casts_implicitly_of (part_kind_of p) k ≡ true) × IsKindedPart p
   IsKindedInitial (ListLiteral ps) = All IsKindedElement ps
 
--- each behind the ones before it
+-- each after the ones before it
 abbrev pub AreKindedInitials : List Kind → List Initial → Type 0
 AreKindedInitials before [] = Unit {0}
 AreKindedInitials before (g ∷ gs) = IsKindedInitial before g × AreKindedInitials (before ++ initial_kind_of g ∷ []) gs

@@ -32,7 +32,7 @@ abbrev pub place_kind : Scope → Place → Option Kind
 place_kind s (Global i) = slice_get s.globals i
 place_kind s (Slot i) = slice_get s.slots i
 
--- a list's elements are no lists
+-- a list's elements aren't lists
 abbrev pub IsElement : Kind → Type 0
 IsElement k = k ≢ kind.List
 

@@ -44,7 +44,7 @@ abbrev mutual
   node_of (declared.Assign' x k p e) = Assign x k (node_of e)
   node_of (form.StepBehind x o) = StepBehind x o
 
-  -- these behind others
+  -- these after others
   pub row_nodes : {m : _} → declared.Row_of-Node m → Nodes → Nodes
   row_nodes declared.end_of-Node ts = ts
   row_nodes (declared.more_of-Node t rest) ts = row_nodes rest (AndNode ts (node_of t))
@@ -70,7 +70,7 @@ node_kind_of (Binary o k a b) = k
 node_kind_of (Assign p k t) = k
 node_kind_of (StepBehind p o) = kind.Int
 
--- the kinds of these values, the last one first: so they lie on a stack
+-- the kinds of these values, the last one first, as they lie on a stack
 abbrev pub stack_of : Nodes → List Kind
 stack_of NoNode = []
 stack_of (AndNode ts t) = node_kind_of t ∷ stack_of ts

@@ -20,12 +20,12 @@ abbrev pub label_of : Action → List ℕ → List ℕ
 label_of (action.Label n) more = n ∷ more
 label_of a more = more
 
--- the labels that stand directly in a block
+-- the labels directly in a block
 abbrev pub labels_in : Actions → List ℕ
 labels_in NoAction = []
 labels_in (AndAction actions a) = label_of a (labels_in actions)
 
--- no number stands there twice
+-- no number occurs twice
 abbrev pub Differ : List ℕ → Type 0
 Differ = AllPairs (λ a b. a ≢ b)
 
@@ -36,7 +36,7 @@ pub record Outline : Type 0 where
   pub gives : Bool
 
 module _ (o : Outline) where
-  -- a function or built-in call with so many parameters, which gives a value or gives none
+  -- a function or built-in call with this many parameters, which gives a value or gives none
   abbrev pub FitsCallee : Callee → ℕ → Bool → Type 0
   FitsCallee c count gives =
       (g : Signature) × (callee_signature o.functions c ≡ Some g) × (length g.params ≡ count)
@@ -90,7 +90,7 @@ abbrev pub ends_with_value : Actions → Bool
 ends_with_value (AndAction xs (action.ReturnValue t)) = true
 ends_with_value xs = false
 
--- a routine's body is one block, and where the routine gives a value, so does the body's end
+-- a routine's body is one block, and if the routine gives a value, so does the body's end
 pub record IsShapedRoutine (functions : List Signature) (states : ℕ) (r : Routine) : Type 0 where
   pub body : IsShapedAction (record { functions = functions; states = states; gives = is_some r.kind }) []
       (action.Block r.body)

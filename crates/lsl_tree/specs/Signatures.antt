@@ -1,4 +1,4 @@
--- What a call asks for and gives, and what the routines of a program ask for and give.
+-- What a call takes and gives, and what the routines of a program take and give.
 use Rattle.std.specs.Prelude.{List, [], ◌∷◌, ◌++◌, Option, Some, map, take, slice_get}
 use Rattle.lsl_value.specs.declared.names.BuiltinId.{BuiltinId}
 use Rattle.lsl_value.specs.declared.tagged.Kind.{Kind}
@@ -31,6 +31,6 @@ abbrev pub handlers_of : List ProgramState → List EventRoutine
 handlers_of [] = []
 handlers_of (s ∷ states) = s.handlers ++ handlers_of states
 
--- the functions, and behind them the handlers, state by state: a routine's number is its place here
+-- the functions, and then the handlers, state by state: a routine's number is its place here
 abbrev pub routines_of : Program → List Routine
 routines_of p = map (λ f. f.routine) p.functions ++ map (λ h. h.routine) (handlers_of p.states)

@@ -1,4 +1,4 @@
--- Statements and what stands in a block, without where they lie in memory.
+-- Statements and the content of a block, without where they lie in memory.
 use Rattle.std.specs.Prelude.{Bool, true, false, Option, None, Some, List, [], ◌∷◌}
 use Rattle.lsl_text.specs.declared.Span.{Span}
 use Rattle.lsl_value.specs.declared.tagged.Kind.{Kind}
@@ -29,7 +29,7 @@ mutual
     Return : Span → Option Expr → Stmt
     State : Span → StateName → Stmt
 
-  -- what stands in a block
+  -- an item of a block
   pub data Item : Type 0 where
     Declaration : Kind → Name → Option Expr → Item
     Label : Name → Item
@@ -59,7 +59,7 @@ abbrev mutual
   item_of (item.Label n) = Label n
   item_of (item.Statement a) = Statement (stmt_of a)
 
-  -- these behind others
+  -- these after others
   pub row_items : {m : _} → declared.Row_of-Item m → Items → Items
   row_items declared.end_of-Item es = es
   row_items (declared.more_of-Item e rest) es = row_items rest (AndItem es (item_of e))
@@ -71,7 +71,7 @@ items_behind (x ∷ xs) es = items_behind xs (AndItem es (item_of x))
 abbrev pub items_of : List declared_item.Item → Items
 items_of xs = items_behind xs NoItem
 
--- an `if` without an `else` stands at its end
+-- an `if` without an `else` is at its end
 abbrev pub ends_open : Stmt → Bool
 ends_open (Block es) = false
 ends_open Empty = false

@@ -56,12 +56,12 @@ pub enum Expr {
         span: Span,
         name: Name,
     },
-    /// NAME `(` .. `)`
+    /// NAME `(` ... `)`
     Call {
         name: Name,
         arguments: Vec<Expr>,
     },
-    /// `[` .. `]`
+    /// `[` ... `]`
     List {
         span: Span,
         elements: Vec<Expr>,

@@ -38,15 +38,15 @@ pub struct EventRoutine {
     pub routine: Routine,
 }
 
-/// A state. The one that a script begins in has the name `default`.
+/// A state. The first one of a script has the name `default`.
 #[derive(Drop)]
 pub struct ProgramState {
     pub name: Text,
     pub handlers: Vec<EventRoutine>,
 }
 
-/// A checked script: globals and functions by their numbers, from 0 in text order, and the states, the first of
-/// which is `default`.
+/// A checked script: globals and functions by their numbers, from 0 in text order, and the states, the first of which
+/// is `default`.
 #[derive(Drop)]
 pub struct Program {
     pub globals: Vec<Initial>,

@@ -3,7 +3,7 @@
 use crate::program_node::{Callee, Node};
 use lsl_value::Kind;
 
-/// An expression that stands as a statement: its value is dropped, or there is none.
+/// An expression used as a statement: its value is dropped, or there is none.
 pub enum Effect {
     Value {
         node: Node,
@@ -18,7 +18,7 @@ pub enum Effect {
 
 /// A statement. Lines are those of the text, at which a script may wait.
 pub enum Action {
-    /// Statements of one block. The labels that stand directly in it are visible in all of it.
+    /// Statements of one block. The labels directly in it are visible in all of it.
     Block {
         actions: Vec<Action>,
     },
@@ -56,7 +56,7 @@ pub enum Action {
         body: Box<Action>,
         test: Node,
     },
-    /// Goes on behind the label of this number.
+    /// Continues after the label of this number.
     Jump {
         line: u32,
         label: usize,
@@ -74,7 +74,7 @@ pub enum Action {
 /// A function, or the handler of an event.
 #[derive(Drop)]
 pub struct Routine {
-    /// Where its name stands in the text.
+    /// The line of its name in the text.
     pub line: u32,
     /// The kind of its result, if it has one.
     pub kind: Option<Kind>,

@@ -3,7 +3,7 @@
 use crate::expression::StepOp;
 use lsl_value::{BinaryOp, BuiltinId, ConstantId, Kind, Text, UnaryOp};
 
-/// Where a variable's value is kept: among the globals, or among the slots of the function in hand.
+/// Where a variable's value is kept: among the globals, or among the slots of the current function.
 #[derive(Clone, Copy, PartialEq, Eq, Hash)]
 pub enum Place {
     Global(usize),
@@ -17,7 +17,7 @@ pub enum Callee {
     Builtin(BuiltinId),
 }
 
-/// An expression. Where its form doesn't tell its kind, it holds it; a cast that nobody wrote is a node like any other.
+/// An expression. It holds its kind, unless its form implies it; an implicit cast is a node like any other.
 pub enum Node {
     Int {
         value: i32,
@@ -58,13 +58,13 @@ pub enum Node {
         left: Box<Node>,
         right: Box<Node>,
     },
-    /// Stores the value, and gives it.
+    /// Stores the value, and returns it.
     Assign {
         place: Place,
         kind: Kind,
         value: Box<Node>,
     },
-    /// `x++`, `x--`: steps an integer variable, and gives what it held before.
+    /// `x++`, `x--`: steps an integer variable, and returns its old value.
     StepBehind {
         place: Place,
         op: StepOp,

@@ -22,7 +22,7 @@ pub enum Atom {
 #[derive(Drop)]
 pub enum Simple {
     Atom { atom: Atom },
-    /// `[` .. `]`
+    /// `[` ... `]`
     List { span: Span, atoms: Vec<Atom> },
 }
 
@@ -50,7 +50,7 @@ pub struct Function {
     pub body: Vec<Item>,
 }
 
-/// What stands before the states.
+/// What comes before the states.
 #[derive(Drop)]
 pub enum Header {
     Global { global: Global },

@@ -1,4 +1,4 @@
-//! Statements and what stands in a block.
+//! Statements, and the content of a block.
 
 use crate::expression::{Expr, Name};
 use lsl_text::Span;
@@ -11,7 +11,7 @@ pub enum StateName {
     Named(Name),
 }
 
-/// What stands in a block.
+/// An item of a block.
 #[cycle(statement)]
 pub enum Item {
     /// TYPE NAME [ `=` expression ] `;`
@@ -33,7 +33,7 @@ pub enum Item {
 /// A statement. The span is that of its first token.
 #[cycle(statement)]
 pub enum Stmt {
-    /// `{` .. `}`
+    /// `{` ... `}`
     Block {
         items: Vec<Item>,
     },
@@ -62,7 +62,7 @@ pub enum Stmt {
         test: Expr,
         body: Box<Stmt>,
     },
-    /// `do` .. `while`
+    /// `do` ... `while`
     Do {
         span: Span,
         body: Box<Stmt>,

@@ -66,7 +66,7 @@ fresh_event events event fresh c =
     let no : not true ≡ true = sym (ap not (is_has events event c)) ∙ fresh in
     absurd (cc)
 
--- what the look at a handler's header tells
+-- what the look at a handler's header shows
 abbrev SeesHandler : List EventId → Handler → List EventId → Type 0
 SeesHandler events h next =
     IsMatched h × (AreApart events → AreApart next) × (map Some next ≡ map Some events ++ event_in h)

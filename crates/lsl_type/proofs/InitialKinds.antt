@@ -52,7 +52,7 @@ global_has c (Slot i) k h = absurd h
 pub globals_have : (c : Setting) (vs : List Variable) → AreGlobals c.globals vs → HaveKinds c vs
 globals_have c vs h n v e = global_has c v.place v.kind (h n v e)
 
--- the initial value of a global behind globals of these kinds
+-- the initial value of a global after globals of these kinds
 module _ (globals : List Kind) (s : ScopeView) (have : AreGlobals globals s.variables) where
   abbrev PartIn : Part → Type 0
   PartIn p = IsKindedPart globals p
@@ -112,7 +112,7 @@ module _ (globals : List Kind) (s : ScopeView) (have : AreGlobals globals s.vari
       weaker_yields (flat_yields atoms ps (All-tail PartIn p ps h) (omega (arith, e))) (λ u t.
       All-cons (IsKindedElement globals) p ps (is_no_list-apart (part_kind_of p) r, All-head PartIn p ps h) t))
 
-  -- nobody writes a cast there
+  -- the only cast there is implicit
   abbrev HasNoCast : Initial → Type 0
   HasNoCast (program.Single p) = Unit {0}
   HasNoCast (program.Cast k p) = ⊥

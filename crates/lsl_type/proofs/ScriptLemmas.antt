@@ -63,7 +63,7 @@ use Rattle.lsl_bodies.proofs.RuleLemmas.{variable_of-some, is_variable-of, is_ki
 use Rattle.lsl_bodies.proofs.ActionLemmas.{or_left, or_right, or_cases, reserved_is, is_reserved-of, neither}
 use Rattle.lsl_bodies.proofs.ActionLemmas.{items_decides}
 
--- what a name in a global's value stands for
+-- what a name in a global's value refers to
 abbrev part_option : Option Variable → Option ConstantId → Option Part
 part_option (Some v) k = part_of v
 part_option None k = constant_part k

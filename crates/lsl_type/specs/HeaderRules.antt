@@ -26,7 +26,7 @@ use Rattle.lsl_bodies.specs.Conversions.{initial_as_kind, empty_initial, is_no_l
 use Rattle.lsl_bodies.specs.Spans.{atom_span, initial_span}
 use Rattle.lsl_bodies.specs.Judgement.{at, Judgement, gives, ◌>>=◌, the_one, must, entry, each}
 
--- in a global's value a name stands for an earlier global, else for a constant
+-- in a global's value a name refers to an earlier global, otherwise to a constant
 abbrev pub IsInitial : ScopeView → Name → Part → Type 0
 IsInitial s x (part.Int n) = ⊥
 IsInitial s x (part.Negative n) = ⊥

@@ -36,7 +36,7 @@ abbrev pub constant_part : Option ConstantId → Option Part
 constant_part None = None
 constant_part (Some id) = Some (part.Constant id (constant_kind_of id))
 
--- a slot is none of a global's
+-- a slot isn't a global's
 abbrev pub part_of : Variable → Option Part
 part_of v = part_at v.place v.kind where
   part_at : Place → Kind → Option Part

@@ -1,4 +1,4 @@
--- What scripts stand for, and their first faults: headers in text order, then bodies.
+-- The meaning of scripts, and their first faults: headers in text order, then bodies.
 use Rattle.std.specs.Prelude.{ℕ, Option, None, List, [], ◌∷◌, ◌++◌, codes}
 use Rattle.lsl_value.specs.declared.tagged.Kind.{Kind}
 use Rattle.lsl_tree.specs.declared.expression.Name.{Name}

@@ -1,4 +1,4 @@
--- What scripts stand for, and their first faults, as functions.
+-- The meaning of scripts, and their first faults, as functions.
 use Rattle.std.specs.Prelude.{ℕ, Option, None, List, [], ◌∷◌, ◌++◌, Ok}
 use Rattle.lsl_value.specs.declared.tagged.Kind.{Kind}
 use Rattle.lsl_tree.specs.declared.expression.Name.{Name}

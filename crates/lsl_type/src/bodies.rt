@@ -138,7 +138,7 @@ impl Bodies<'_> {
         Ok(EventRoutine { event, routine })
     }
 
-    /// The states: `default`, whose handlers these are, and the others.
+    /// The states: `default`, with these handlers, and the others.
     pub(crate) fn states(
         &self,
         frame: &mut Frame,

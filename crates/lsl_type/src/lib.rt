@@ -24,9 +24,10 @@ mod states;
 
 pub use lsl_bodies::{Refused, TypeFault, TypeKind};
 
-/// The checked program of a script, or the first fault of its names and kinds: headers come first, in text order, and
-/// then bodies; in each part what stands in it comes before the part itself, from left to right. Takes memory for the
-/// program and for tables of names; each name is looked up in a table.
+/// The checked program of a script, or the first fault of its names and kinds.
+///
+/// Headers come first, in text order, and then bodies. The items of a part come before the part itself, from left to
+/// right. Takes memory for the program and for tables of names; each name is looked up in a table.
 pub fn check(alloc: Global, tree: &Tree) -> Result<Program, Refused>
     ensures found { IfOk result (λ p. Typed (tree_of tree.now) (program_of p)) }
     ensures every { (p : program.Program) → Typed (tree_of tree.now) p → MatchResult result

@@ -18,7 +18,7 @@ pub(crate) fn kinds(alloc: Global, params: &[Param]) -> Result<Vec<Kind>, NoMemo
     params.iter().map(|param| param.kind).collect(alloc)
 }
 
-/// Parameters: none has a reserved name, or that of another. Their names stand in `names` then, and no others.
+/// Parameters: none has a reserved name, or that of another. `names` has their names then, and no others.
 pub(crate) fn params(alloc: Global, names: &mut Names, params: &[Param]) -> Result<(), Refused>
     ensures { Rules (λ _. names.new) result (each_verdict param_verdict [] params.now) }
 {

@@ -11,7 +11,7 @@ use lsl_tree::{Handler, State};
 use lsl_value::EventId;
 use std::alloc::Global;
 
-/// The states behind `default`, and their handlers. The names of parameters are looked up in `seen`.
+/// The states after `default`, and their handlers. The names of parameters are looked up in `seen`.
 pub(crate) fn states(alloc: Global, seen: &mut Names, list: &[State]) -> Result<Names, Refused>
     ensures { Rules (λ n. n) result (each_verdict state_verdict [] (map state_of list.now)) }
 {
