@@ -1,4 +1,4 @@
--- How the program is called, and the file of which a status speaks.
+-- How the program is called, and the file that a status is about.
 use Rattle.std.specs.Prelude.{ℕ, codes, List, [], ◌∷◌, ◌++◌, map, Option, Some, None, if◌then◌else◌}
 use Rattle.std.specs.Prelude.{String, string_bytes}
 use Rattle.std.specs.Str.{bytes_eq}
@@ -15,7 +15,7 @@ abbrev pub one_of_two : Status → List ℕ → List ℕ → List ℕ
 one_of_two BadImage frozen world = frozen
 one_of_two status frozen world = world
 
--- the file that the words name, and of which a status speaks; behind `make` stands a number
+-- the file that the words name and a status is about; `make` is followed by a number
 abbrev pub named_in : Status → List (List ℕ) → Option (List ℕ)
 named_in status (word ∷ file ∷ []) = if bytes_eq word (codes "make") then None else Some file
 named_in status (word ∷ frozen ∷ world ∷ []) = Some (one_of_two status frozen world)

@@ -1,4 +1,4 @@
-//! A command over any outside: what it does, what is said of how it ended, and the process's status.
+//! A command over any outside: what it does, what is printed about how it ended, and the process's status.
 
 ghost use Rattle.std.specs.Prelude.{◌≡◌, ◌⊎◌};
 ghost use Rattle.std.specs.Process.{exit_status};
@@ -22,9 +22,10 @@ const USAGE: &str =
     "usage: lsl once FILE | check FILE | replay [--lossy] WORLD | freeze WORLD | thaw FROZEN WORLD \
         | view FROZEN WORLD | make NUMBER\n";
 
-/// Does what the words ask for over this outside. Where it doesn't end well, one line on the notes
-/// says how. The process ends with the number of the command's status. It takes memory for the
-/// command.
+/// Runs the command that the words ask for over this outside.
+///
+/// If it doesn't end well, one line on the notes says how. The process ends with the number of the command's status. It
+/// takes memory for the command.
 pub fn run<S: Shelf, K: Sink, L: Link, N: Sink>(
     alloc: Global,
     words: &[String],
@@ -39,7 +40,7 @@ pub fn run<S: Shelf, K: Sink, L: Link, N: Sink>(
         (L.trips link.old) (L.faults link.old))
         (outside (S.held shelf.new) (S.faults shelf.new) (K.sunk sink.new) (K.faults sink.new)
         (L.trips link.new) (L.faults link.new)) }
-    // The line of that status was said, but where the notes failed.
+    // The line of that status was printed, unless the notes failed.
     ensures told { (status : Ended) → exit_status result ≡ number_of status
         → Rose (N.faults notes.old) (N.faults notes.new)
         ⊎ IsTold usage status (file_in status words.now) (N.sunk notes.old) (N.sunk notes.new) }

@@ -1,11 +1,11 @@
-//! The file of which a status speaks.
+//! The file that a status is about.
 
 ghost use Rattle.std.specs.Prelude.{◌≡◌, option_map};
 ghost use Rattle.lsl.specs.Notice.{file_in, one_of_two};
 
 use lsl_top::Status;
 
-/// The file that the words name, and of which a status speaks.
+/// The file that the words name and a status is about.
 pub fn named_file(status: Status, words: &[String]) -> Option<&str>
     ensures { file_in status words.now ≡ option_map (λ file. file.now) result }
 {
@@ -17,7 +17,7 @@ pub fn named_file(status: Status, words: &[String]) -> Option<&str>
     }
 }
 
-/// Of a frozen file and one of a world, the one of which a status speaks.
+/// Of a frozen file and one of a world, the one that a status is about.
 fn one_of_two<'a>(status: Status, frozen: &'a str, world: &'a str) -> &'a str
     ensures { result.now ≡ one_of_two status frozen.now world.now }
 {

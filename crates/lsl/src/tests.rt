@@ -12,8 +12,8 @@ const LITERAL: &[u8] = b"default{state_entry(){llOwnerSay(\"hi\");}}";
 
 const REPORT: &[u8] = b"took 1 state_entry\nowner 1 \"hi\"\ndone 1 1024\nhome 1 \"here\"\n";
 
-/// What a command is given: its words behind the program's name, the text of the file `s.lsl`, and how many bytes
-/// standard output and the notes have room for.
+/// What a command is given: its words after the program's name, the text of the file `s.lsl`, and the capacity in bytes
+/// of standard output and the notes.
 #[derive(Clone, Copy)]
 struct Case<'a> {
     words: &'a [&'a str],

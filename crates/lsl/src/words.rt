@@ -20,8 +20,8 @@ use std::alloc::Global;
 use std::io;
 use std::process::ExitCode;
 
-/// Does what the words behind the program's name ask for, as `run` does, or says why the system gave none. Each
-/// crossing brings back what was sent.
+/// Runs the command that the words after the program's name ask for, as `run` does, or prints why the system gave none.
+/// Each crossing brings back what was sent.
 pub fn start<S: Shelf, K: Sink, N: Sink>(
     alloc: Global,
     line: io::Result<Vec<String>>,
@@ -29,17 +29,17 @@ pub fn start<S: Shelf, K: Sink, N: Sink>(
     sink: &mut K,
     notes: &mut N,
 ) -> ExitCode
-    // Where the words are given, the process ends with the number of the command's status.
+    // If the words are given, the process ends with the number of the command's status.
     ensures ends { IfOk line (λ line. EndsAs copies (exit_status result) (command_of (drop 1 line.items))
         (outside (S.held shelf.old) (S.faults shelf.old) (K.sunk sink.old) (K.faults sink.old) None 0)
         (outside (S.held shelf.new) (S.faults shelf.new) (K.sunk sink.new) (K.faults sink.new) None 0)) }
-    // The line of that status was said, but where the notes failed.
+    // The line of that status was printed, unless the notes failed.
     ensures told { IfOk line (λ line. (status : Ended) → exit_status result ≡ number_of status
         → Rose (N.faults notes.old) (N.faults notes.new)
         ⊎ IsTold usage status (file_in status (drop 1 line.items)) (N.sunk notes.old) (N.sunk notes.new)) }
-    // Where they aren't, it ends with 7 for want of memory, and else with 9.
+    // If they aren't, it ends with 7 when out of memory, and otherwise with 9.
     ensures refused { IfErr line (λ error. IsRefusal (error_kind error) (exit_status result)) }
-    // The line of that was said, but where the notes failed.
+    // The line of that was printed, unless the notes failed.
     ensures refusal_told { IfErr line (λ error. Rose (N.faults notes.old) (N.faults notes.new)
         ⊎ IsRefusalTold (error_kind error) (N.sunk notes.old) (N.sunk notes.new)) }
 {

@@ -1,11 +1,11 @@
-//! The bytes that the lines of a case stand for.
+//! The bytes that the lines of a case mean.
 
 use std::alloc::Global;
 use std::rt::Files;
 use std::{fs, io};
 
-/// The bytes of lines: `|` a text and a line feed, `+` a text, `*N` and a blank a text so many times, `%N`
-/// the same with line feeds, `x` hexadecimal digits, `<` the bytes of a file. An empty line has none.
+/// The bytes of lines: `|` a text and a line feed, `+` a text, `*N` and a blank a text N times, `%N` the same with line
+/// feeds, `x` hexadecimal digits, `<` the bytes of a file. An empty line has none.
 pub fn bytes_of<R: Files + AllocGlobal>(rt: &R, lines: &str) -> io::Result<Vec<u8>> {
     let mut out = Vec::new(rt.alloc());
     push_lines(rt, &mut out, lines)?;
@@ -52,7 +52,7 @@ fn push_file<R: Files + AllocGlobal>(rt: &R, out: &mut Vec<u8>, name: &str) -> i
     Ok(out.extend_from_slice(bytes.as_slice())?)
 }
 
-/// Appends a text so many times as the number before it says, each time with this end.
+/// Appends a text the number of times that comes before it, each time with this end.
 fn push_counted(out: &mut Vec<u8>, counted: &str, end: &str) -> io::Result<()> {
     let (count, text) = counted.split_once(' ').unwrap_or((counted, ""));
     match count.parse::<u32>() {

@@ -6,11 +6,11 @@ pub struct Case<'a> {
     pub name: &'a str,
     /// The words of its command, with blanks between, and what fails meanwhile.
     pub command: &'a str,
-    /// Its files: the name of each, and the lines of its bytes. All but the first stand behind `@ `.
+    /// Its files: the name of each, and the lines of its bytes. All but the first follow `@ `.
     pub files: &'a str,
-    /// The status that it is to end with.
+    /// The status that it must end with.
     pub status: &'a str,
-    /// The lines of the bytes that it is to write.
+    /// The lines of the bytes that it must write.
     pub lines: &'a str,
 }
 
@@ -21,8 +21,8 @@ pub struct Ending {
     pub written: Vec<u8>,
 }
 
-/// The case that a text is: remarks behind `#`, its name behind `?`, its command behind `>`, each of its
-/// files behind `@`, and its end behind `=`. Nothing where the text isn't of this form.
+/// The case that a text is: remarks after `#`, its name after `?`, its command after `>`, each of its files after `@`,
+/// and its end after `=`. Nothing if the text isn't of this form.
 pub fn case_of(text: &str) -> Option<Case<'_>> {
     let (name, rest) = behind_remarks(text)?.split_once("\n>")?;
     let (asked, want) = rest.split_once("\n= ")?;
@@ -40,7 +40,7 @@ pub fn case_of(text: &str) -> Option<Case<'_>> {
     })
 }
 
-/// What stands behind the remarks and the sign of the name.
+/// What follows the remarks and the sign of the name.
 fn behind_remarks(text: &str) -> Option<&str> {
     if text.starts_with("? ") {
         return text.strip_prefix("? ");

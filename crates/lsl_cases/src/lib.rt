@@ -1,5 +1,4 @@
-//! Cases as text: a command, its files, and how it is to end. A file of cases can be read and added to by a
-//! person.
+//! Cases as text: a command, its files, and how it must end. A person can read and extend a file of cases.
 #![tactic(auto)]
 
 mod bytes;

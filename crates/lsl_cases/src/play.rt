@@ -6,15 +6,14 @@ use crate::telling::tell;
 use std::rt::{Env, Files};
 use std::{env, fs, io};
 
-/// What plays the command of a case.
+/// Runs the command of a case.
 pub trait Player<R> {
-    /// How the command of a case ends. It fails where a line isn't one of bytes, or a file that it names
-    /// can't be read.
+    /// How the command of a case ends. It fails if a line isn't one of bytes, or a file that it names can't be read.
     fn ending(&self, rt: &R, case: Case<'_>) -> io::Result<Ending>;
 }
 
-/// Plays the files of cases that the words of this process name, and tells how many cases of each hold.
-/// Before, it tells each case that doesn't.
+/// Plays the files of cases that the words of this process name, and prints how many cases of each hold. Before that it
+/// prints each case that doesn't.
 pub fn play_named<R: Env + Files + Print + AllocGlobal, P: Player<R>>(
     rt: &R,
     player: &P,
@@ -25,7 +24,7 @@ pub fn play_named<R: Env + Files + Print + AllocGlobal, P: Player<R>>(
     Ok(())
 }
 
-/// Plays the cases of a file, and tells how many hold.
+/// Plays the cases of a file, and prints how many hold.
 fn play_file<R: Files + Print + AllocGlobal, P: Player<R>>(
     rt: &R,
     player: &P,
@@ -55,7 +54,7 @@ fn play_all<R: Files + Print + AllocGlobal, P: Player<R>>(
     Ok(held)
 }
 
-/// Whether a text is a case, and its command ends as it is to. Where it doesn't, that is told.
+/// Whether a text is a case, and its command ends as it must. Prints it if it doesn't.
 fn holds<R: Files + Print + AllocGlobal, P: Player<R>>(
     rt: &R,
     player: &P,
@@ -71,7 +70,7 @@ fn holds<R: Files + Print + AllocGlobal, P: Player<R>>(
     }
 }
 
-/// Whether the command of a case ends as it is to, with these bytes.
+/// Whether the command of a case ends as it must, with these bytes.
 fn ends_so<R: Files + Print + AllocGlobal, P: Player<R>>(
     rt: &R,
     player: &P,
@@ -84,7 +83,7 @@ fn ends_so<R: Files + Print + AllocGlobal, P: Player<R>>(
     }
 }
 
-/// Tells why a case isn't played, which doesn't hold then.
+/// Prints why a case isn't played; it doesn't hold then.
 fn tell_error<R: Print + AllocGlobal>(rt: &R, name: &str, error: io::Error) -> io::Result<bool> {
     println!(rt; "{name}: not played: {error}")?;
     Ok(false)

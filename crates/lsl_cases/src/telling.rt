@@ -1,10 +1,10 @@
-//! What is told of a case that ends in another way than it is to.
+//! What is printed of a case that ends in another way than it must.
 
 use crate::case::{Case, Ending};
 use std::io;
 
-/// Whether a case ended as it is to. Where it didn't, its name is told with what came and what was wanted:
-/// the status, or the first line that differs.
+/// Whether a case ended as it must. If it didn't, prints its name with what came and what was wanted: the status, or
+/// the first line that differs.
 pub fn tell<R: Print + AllocGlobal>(
     rt: &R,
     case: Case<'_>,
@@ -25,7 +25,7 @@ pub fn tell<R: Print + AllocGlobal>(
     Ok(same_status && same_bytes)
 }
 
-/// Tells the first line that differs.
+/// Prints the first line that differs.
 fn tell_line<R: Print + AllocGlobal>(
     rt: &R,
     name: &str,

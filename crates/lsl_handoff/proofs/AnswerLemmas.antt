@@ -1,4 +1,4 @@
--- What a call answers that reads the bytes of a note.
+-- What a call returns that reads the bytes of a note.
 use Rattle.std.proofs.Common.{◌≡◌, ◌∙◌, sym, refl, subst, ℕ, ◌<◌, ◌^◌, List, length, get_or, Some, None, Result, Ok, Err}
 use Rattle.std.specs.Prelude.{IfOk, MatchResult}
 use Rattle.lsl_text.specs.declared.Refusal.{Refusal}
@@ -12,7 +12,7 @@ use Rattle.lsl_handoff.proofs.FaultlessLemmas.{faultless-is}
 use Rattle.lsl_handoff.proofs.WrittenLemmas.{written-faultless, written-is}
 
 module _ (objects regions : ℕ) (bytes : List ℕ) where
-  -- what stands in the bytes, or their first fault
+  -- the content of the bytes, or their first fault
   abbrev pub Answers : Result Note (Refusal NoteFault) → Type 0
   Answers result = MatchResult result (λ note. (first_fault bytes objects regions ≡ None) × (note ≡ note_in bytes))
       (IsRefusedBy (λ fault. first_fault bytes objects regions ≡ Some fault))

@@ -13,7 +13,7 @@ use Rattle.lsl_handoff.specs.Notes.{answer_of}
 use Rattle.lsl_handoff.specs.Rules.{Effect, delivered, known_answer, was_refused, was_taken}
 use Rattle.lsl_handoff.proofs.Driving.{Arrived, FromIs, IsBetween, IsKnown, IsKnownReply, IsNow, IsOld, IsntLeaving, ToIs}
 
--- cards that are the same but for one that is the same
+-- cards that are the same except one that is the same
 pub same-cards : (at new : ℕ → Card) (r : ℕ) → new r ≡ at r → ((q : ℕ) → q ≢ r → new q ≡ at q) → at ≡ new
 same-cards at new r here same = λ i q. (each q (cases_eq q r)) i
   where
@@ -55,7 +55,7 @@ refused-isnt (Live held) h = tt
 refused-isnt (Leaving to held) h = h
 refused-isnt (Cancelling to held) h = tt
 
--- a region that the object isn't in stays so, whatever is told
+-- a region that the object isn't in stays so, whatever note comes
 taken-away : (card : Card) → card.phase ≡ Away → record card { phase = was_taken card.phase } ≡ card
 taken-away card is = ap (λ (p : Phase). record card { phase = p }) (ap was_taken is ∙ sym is)
 
@@ -244,7 +244,7 @@ module _ (a b trip : ℕ) (parcel : List ℕ) (apart : a ≢ b) (at new : ℕ �
         (rises-at at new b (let low = is.to.1 in omega (arith, low, here)) same)
         (λ isnt. subst (λ (c : Card). IsntLeaving c.phase) (sym (same a apart)) isnt) (λ e. cc) (λ e. cc)
 
-  -- the leaving region hears what came of it
+  -- the leaving region hears the outcome
   module _ (first : First) (is : IsBetween a b trip parcel at first) (same : (q : ℕ) → q ≢ a → new q ≡ at q)
       (p : Phase) (here : new a ≡ record (at a) { phase = p }) (from : FromIs a b trip parcel first p) where
     pub told-between : IsBetween a b trip parcel new first
@@ -374,7 +374,7 @@ module _ (a b trip : ℕ) (parcel : List ℕ) (apart : a ≢ b) (at new : ℕ �
       (at b, Some (known_answer (at b) note)) (not-later CancelFirst is.to (λ e. cc))
       ∙ ap (λ (n : Note). let e : Effect = (at b, Some n) in e) (known-refused is)) here
 
-  -- an answer comes to the leaving region
+  -- an answer reaches the leaving region
   module _ (first : First) (is : IsBetween a b trip parcel at first) (same : (q : ℕ) → q ≢ a → new q ≡ at q) where
     asked-now : nat_eq (at a).trip note.trip ≡ true
     asked-now = let e = is.from_trip in grind (arith, nat_tests)

@@ -1,4 +1,4 @@
--- What a drive asks: an offer is of the parcel as which the object left, and each note is one of its field.
+-- What a drive asks: an offer is of the parcel with which the object left, and each note is one of its field.
 use Rattle.std.proofs.Common.{◌≡◌, ◌∙◌, refl, sym, ap, subst, ℕ, ◌<◌, ◌^◌, nat_eq, nat_lt, Bool, true, false, if◌then◌else◌, List, Option, Some, None}
 use Rattle.std.specs.Prelude.{IfSome}
 use Rattle.lsl_handoff.specs.declared.card.Card.{Card}
@@ -64,7 +64,7 @@ left-called parcel (Live held) card region object e h = subst (LeftAs parcel) (s
 left-called parcel (Leaving to held) card region object e h = tt
 left-called parcel (Cancelling to held) card region object e h = subst (LeftAs parcel) (sym e) h
 
--- a note of the field that is no offer
+-- a note of the field that isn't an offer
 pub record IsAnswer (objects regions : ℕ) (note : Note) : Type 0 where
   pub is : IsNote objects regions note
   pub kind : is_offer note.kind ≡ false
@@ -182,7 +182,7 @@ module _ (objects regions : ℕ) (way : Way) (parcel : List ℕ) (start : List (
               (answer-received objects regions m.field back is));
         }
 
-    -- the note that is asked, where its trip has a number
+    -- the note that is asked, if its trip has a number
     abbrev IsOfDrive : Note → Type 0
     IsOfDrive note =
         IsNote objects regions note

@@ -28,7 +28,7 @@ module _ (regions : ℕ) (at : ℕ → Card) (sent : Note → Type 0) (parcel : 
     fits = fits;
   }
 
-  -- a question of this trip or an earlier one is answered by what came of it
+  -- a question of this trip or an earlier one is answered by its outcome
   module _ (past : note.trip < (at note.to).trip → Fits at (answer_of Taken note) Taken)
       (took : (at note.to).trip ≡ note.trip → (at note.to).took ≡ true → Fits at (answer_of Taken note) Taken)
       (refused : (at note.to).trip ≡ note.trip → (at note.to).took ≡ false → Fits at (answer_of Refused note) Refused)

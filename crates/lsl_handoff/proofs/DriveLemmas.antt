@@ -79,7 +79,7 @@ answer-there field new note answer e to from =
         subst (λ (r : ℕ). HasCard new a.object r) (sym back.1)
         (subst (λ (o : ℕ). HasCard new o note.from) (sym back.0) stays)
 
--- a note whose answer is awaited comes from the region that awaits it
+-- a pending note comes from the region that awaits its answer
 awaited-there : (field : List (List Card)) (way : Way) → HasCard field way.object way.from
     → IfSome (awaited_in field way) (λ n. HasCard field n.object n.from)
 awaited-there field way has = go (card_at field way.object way.from).phase where

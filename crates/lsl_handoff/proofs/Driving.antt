@@ -57,7 +57,7 @@ module _ (a b trip : ℕ) (parcel : List ℕ) where
   IsKnownReply at first None = Unit {0}
   IsKnownReply at first (Some note) = IsKnown at first note
 
-  -- behind an arrival
+  -- after an arrival
   pub record Arrived (at new : ℕ → Card) (first next : First) (reply : Option Note) : Type 0 where
     pub between : IsBetween new next
     pub reply_known : IsKnownReply new next reply

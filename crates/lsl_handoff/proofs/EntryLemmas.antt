@@ -132,7 +132,7 @@ is_first Neither later = later
 is_first OfferFirst later = true
 is_first CancelFirst later = false
 
--- what a note that came back tells of the offer and the cancel
+-- what a note that came back says of the offer and the cancel
 abbrev Tells : First → Bool → Bool → Type 0
 Tells Neither offered called = (offered ≡ false) × (called ≡ false)
 Tells OfferFirst offered called = offered ≡ true
@@ -242,7 +242,7 @@ module _ (objects regions : ℕ) (Takes : Note → Type 0) (ranges : AreCounts o
       parcel = plain.parcel;
     }
 
-    -- what it tells, where it came back as these bytes
+    -- what it says, if it came back as these bytes
     module _ (bytes : List ℕ) (read : IsNoteOf objects regions bytes note) where
       unlike : (x : Note) → IsNote objects regions x → length x.parcel < 2 ^ 63 → (note ≡ x → ⊥)
           → is_same (note_bytes x) (Some bytes) ≡ false
@@ -387,7 +387,7 @@ module _ (objects regions : ℕ) (Takes : Note → Type 0) (ranges : AreCounts o
   abbrev Quiet : Moment → Type 0
   Quiet x = asks way x ≡ None → IsntLeaving (card_at x.field way.object way.from).phase
 
-  -- what the rest of a drive comes to
+  -- the result of the rest of a drive
   pub record Comes (first : First) (last : Moment) (entries : List (List ℕ)) (trips : List Trip) : Type 0 where
     pub then_first : First
     pub told : is_first first (comes (note_bytes offer) (note_bytes cancel) trips) ≡ is_first then_first false
@@ -481,7 +481,7 @@ rests-as way Neither = refl
 rests-as way OfferFirst = refl
 rests-as way CancelFirst = refl
 
--- what came to the other region is given, unless the object is live again where it was
+-- what arrived in the other region is returned, unless the object is live again where it was
 landed-so : (way : Way) (came : Note) (new : List (List Card)) → way.from ≢ way.to → (f : First)
     → IsAtRest new way.object (rests_in way f) → (landed : Option Note) → landed ≡ landed_as f came
     → landed_unless (is_live (card_at new way.object way.from).phase) landed

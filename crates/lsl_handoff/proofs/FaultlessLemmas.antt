@@ -1,4 +1,4 @@
--- Bytes without a fault are those of the note that stands in them.
+-- Bytes without a fault are those of the note in them.
 use Rattle.std.proofs.Common.{◌≡◌, ◌∙◌, refl, sym, ap, arith, ℕ, ◌+◌, ◌-◌, ◌<◌, ◌≤◌, ◌==◌, nat_le, Bool, true, false, ◌&&◌, if◌then◌else◌, List, [], ◌++◌, length, take, drop, get_or, append_assoc, Option, None}
 use Rattle.std.specs.Int.{w64, from_be_bytes}
 use Rattle.std.specs.Prelude.{codes}
@@ -52,7 +52,7 @@ number-of-kind n is =
     by-tests false false false p q r least most = grind (arith, nat_tests)
 
 module _ (fields : List ℕ) (small : (i : ℕ) → get_or fields i 0 < 256) where
-  -- what stands behind the regions
+  -- what follows the regions
   pub end-is : (kind : NoteKind) → 35 ≤ length fields → end_fault kind fields ≡ None
       → drop 35 fields ≡ parcel_bytes kind (parcel_in kind fields)
   end-is Offer enough none =
@@ -131,7 +131,7 @@ module _ (fields : List ℕ) (small : (i : ℕ) → get_or fields i 0 < 256) whe
         let e0 : fields ≡ codes "LSLN" ++ r1 = glue fields (codes "LSLN") r1 0 4 letters e1 in
         e0 ∙ sym (simp append_assoc)
 
--- the size stands before the digest
+-- the size comes before the digest
 front-part : (bytes fields digest : List ℕ) → bytes ≡ fields ++ digest → 35 ≤ length fields
     → part_at bytes 6 8 ≡ part_at fields 6 8
 front-part bytes fields digest is enough =

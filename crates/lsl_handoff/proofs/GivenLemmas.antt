@@ -1,4 +1,4 @@
--- What is given of an object that is handed over stands for the offer as which it came.
+-- What is returned of an object that is handed over is the meaning of the offer with which it came.
 use Rattle.std.proofs.Common.{◌≡◌, ◌∙◌, refl, sym, ap, subst, ◌&&◌, Bool, true, false, if◌then◌else◌, Option, Some, None}
 use Rattle.lsl_handoff.specs.declared.drive.Way.{Way}
 use Rattle.lsl_handoff.specs.declared.handover.Back.{Back}

@@ -1,4 +1,4 @@
--- What it comes to that an object is handed over, from the trips of its drive.
+-- The result of handing an object over, from the trips of its drive.
 use Rattle.std.proofs.Common.{◌≡◌, ◌∙◌, refl, ap, subst, sym, inr, ℕ, ◌<◌, ◌^◌, Bool, true, false, List, [], ◌++◌, length, Option, Some, None, arith}
 use Rattle.std.specs.Prelude.{Err, IfSome, MatchResult, Ok, Result}
 use Rattle.std.proofs.lemmas.List.Elements.{All-append}
@@ -42,7 +42,8 @@ given-unless : {T : Type 0} (stands : Note → T → Type 0) (home : Bool) (land
 given-unless stands true landed given is = tt
 given-unless stands false landed given is = is
 
--- the trips so far lead from the departure to this moment, and what is given so far stands for the offer that landed
+-- the trips so far lead from the departure to this moment, and what is returned so far is the meaning of the offer that
+-- landed
 pub record IsUnderWay {T : Type 0} (gives : List ℕ → Option (List ℕ) → Type 0) (objects regions : ℕ)
     (stands : Note → T → Type 0) (way : Way) (parcel : List ℕ) (old : List (List Card))
     (before link : Option (List Trip)) (m : Moment) (given : Option T) : Type 0 where
@@ -145,7 +146,7 @@ module _ {T : Type 0} (gives : List ℕ → Option (List ℕ) → Type 0) (objec
           now.drives asked one)
 
       module _ (back : Option (Back T)) (carried : IsCarried link then note back) where
-        -- or behind it
+        -- or after it
         pub goes-unheard : (new : List (List Card)) → Goes new before then (Err NoMemory)
         goes-unheard new =
             let (more, went, one) = carried in

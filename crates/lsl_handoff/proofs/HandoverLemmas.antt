@@ -64,7 +64,7 @@ module _ (objects regions : ℕ) (Takes : Note → Type 0) (way : Way) where
       subst (λ (ts : List Trip). IsCut objects regions Takes way m (trips ++ ts)) (sym one)
       (cut-one trips m last note (record { sent = note_bytes note; back = back }) drives asked refl)
 
--- what holds of each card goes on where a note is delivered
+-- what holds of each card continues to hold where a note is delivered
 module _ (field : List (List Card)) (note : Note) (there : HasCard field note.object note.to) (object region : ℕ)
     (P : Card → Type 0) (keeps : P (card_at field note.object note.to)
     → P (delivered note.kind (card_at field note.object note.to) note).0) where

@@ -1,4 +1,4 @@
--- The holder, after each event. The cards are as they were but for that of one region.
+-- The holder, after each event. The cards are unchanged, except that of one region.
 use Rattle.std.proofs.Common.{◌≡◌, ◌≢◌, sym, subst, ℕ, ◌+◌, ◌<◌, ◌⊎◌, true, false, List, inl, inr, arith}
 use Rattle.std.proofs.lemmas.Bool.{cases_eq}
 use Rattle.lsl_handoff.specs.declared.card.Card.{Card}
@@ -20,13 +20,14 @@ module _ (regions : ℕ) (at new : ℕ → Card) (parcel : List ℕ) (h : ℕ) (
   pub cancel-holder : (note : Note) → (at note.to).trip < note.trip → Fits at note Cancel → note.from ≡ h
   cancel-holder note later fits = grind arith
 
-  -- whoever awaits an answer and hears that the object was taken isn't the holder
+  -- a region that awaits an answer and hears that the object was taken isn't the holder
   pub taken-elsewhere : (note : Note) → (at note.to).trip ≡ note.trip → note.from ≢ note.to → Fits at note Taken
       → ((held : List ℕ) → (at note.to).phase ≡ Live held → ⊥) → ((at note.to).phase ≡ Away → ⊥)
       → note.to ≢ h
   taken-elsewhere note same apart fits not_live not_away = grind arith
 
-  -- whoever called the object back and hears that it was refused is the holder, and the other region has this trip
+  -- a region that called the object back and hears that it was refused is the holder, and the other region has this
+  -- trip
   pub refused-holder : (note : Note) (to : ℕ) (held : List ℕ) → (at note.to).trip ≡ note.trip
       → (at note.to).phase ≡ Cancelling to held → Fits at note Refused
       → (note.to ≡ h) × (to ≡ note.from) × ((at note.from).trip ≡ note.trip)

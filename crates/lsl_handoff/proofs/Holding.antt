@@ -14,7 +14,7 @@ use Rattle.lsl_handoff.specs.Rules.{Effect}
 abbrev pub IsUntaken : Card → ℕ → Type 0
 IsUntaken card trip = (card.trip < trip) ⊎ ((card.trip ≡ trip) × (card.took ≡ false))
 
--- the card's region took the object on this trip, or a later trip tells so
+-- the card's region took the object on this trip, or a later trip shows it
 abbrev pub IsTakenOn : Card → ℕ → Type 0
 IsTakenOn card trip = (trip < card.trip) ⊎ ((card.trip ≡ trip) × (card.took ≡ true))
 
@@ -76,7 +76,7 @@ module _ (at : ℕ → Card) (note : Note) where
   abbrev pub IsAnswered : Type 0
   IsAnswered = IsOver (at note.from) note.trip × (note.trip ≤ (at note.to).trip)
 
-  -- what a note tells of the cards of its two regions
+  -- what a note says of the cards of its two regions
   abbrev pub Fits : NoteKind → Type 0
   Fits Offer =
       (((at note.from).trip ≡ note.trip) × IsOffering (at note.from).phase note.to note.parcel) ⊎ IsAnswered

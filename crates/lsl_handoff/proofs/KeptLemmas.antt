@@ -1,4 +1,4 @@
--- What each event keeps of an earlier note. The cards are as they were but for that of one region.
+-- What each event keeps of an earlier note. The cards are unchanged, except that of one region.
 use Rattle.std.proofs.Common.{◌≡◌, ◌≢◌, ℕ, ◌+◌, ◌<◌, ◌≤◌, false, List, inl, inr, arith}
 use Rattle.lsl_handoff.specs.declared.card.Card.{Card}
 use Rattle.lsl_handoff.specs.declared.card.Phase.TheVariants.{Away, Live, Leaving, Cancelling}
@@ -52,7 +52,7 @@ module _ (regions : ℕ) (at new : ℕ → Card) (parcel : List ℕ) (h : ℕ) (
     over-rise : IsOver (at note.to) note.trip → IsOver (new note.to) note.trip
     over-rise over = grind arith
 
-    -- who refuses a trip that isn't over has the greatest one
+    -- a region that refuses a trip that isn't over has the greatest one
     refuser-stays : (at note.to).trip ≡ note.trip → IsCancelling (at note.to).phase note.from
         → (at note.from).trip ≡ note.trip → (at note.from).took ≡ false → (note.to ≡ h) × (note.from ≢ r)
     refuser-stays asked is refused took = grind arith

@@ -20,7 +20,7 @@ pub u64-again : (n : ℕ) → n < 2 ^ 64 → from_be_bytes w64 (u64_bytes n) ≡
 unfolding u64_bytes
 u64-again n small = from_be_bytes-to_be_bytes_8 n small
 
--- what stands at a place, where the bytes from there on are known
+-- what is at a place, if the bytes from there on are known
 pub record IsCut (bytes : List ℕ) (place n : ℕ) (part rest : List ℕ) : Type 0 where
   pub part_is : part_at bytes place n ≡ part
   pub rest_is : drop (place + n) bytes ≡ rest
@@ -37,7 +37,7 @@ cut bytes part rest place n is long =
       long = ap length is ∙ length-append part rest ∙ omega (arith, long, ap length behind);
     }
 
--- the bytes from a place on are those of a part and those behind it
+-- the bytes from a place on are those of a part and those after it
 pub joined : (bytes : List ℕ) (place n : ℕ) → drop place bytes ≡ part_at bytes place n ++ drop (place + n) bytes
 joined bytes place n = sym (take-append-drop n (drop place bytes))
     ∙ ap (λ (t : List ℕ). take n (drop place bytes) ++ t) (drop-drop n place bytes)

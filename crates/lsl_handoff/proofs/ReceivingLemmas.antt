@@ -1,4 +1,4 @@
--- A note comes while an object is driven: what holds of the drive goes on.
+-- A note comes while an object is driven: what holds of the drive continues to hold.
 use Rattle.std.proofs.Common.{◌≡◌, ◌≢◌, ◌∙◌, refl, sym, ap, subst, ℕ, ◌-◌, ◌<◌, ◌≤◌, nat_eq, nat_lt, ◌&&◌, ◌⊎◌, Bool, true, false, if◌then◌else◌, List, [], length, get_or, set, Option, Some, None, inl, inr, arith}
 use Rattle.std.proofs.lemmas.Bool.{cases_eq, eq-eqb, ne_eqb}
 use Rattle.std.proofs.lemmas.Bool.Decides.{nat_tests}
@@ -304,7 +304,7 @@ module _ (way : Way) (trip : ℕ) (parcel : List ℕ) (apart : way.from ≢ way.
       (delivered note.kind (at note.to) note).1) (sym (first-now way trip first note own now.0))
       (arrives-now note.kind now.1 now.0 here)
 
--- the offer as which the object came to the other region
+-- the offer with which the object came to the other region
 module _ (way : Way) (trip : ℕ) (parcel : List ℕ) (field : List (List Card)) (note : Note) (before : Option Note) where
   abbrev offer : Note
   offer = offer_of way.object trip way.from way.to parcel

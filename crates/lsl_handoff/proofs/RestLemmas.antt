@@ -95,7 +95,7 @@ abbrev pub AreCameOf : (Note → Type 0) → List Carried → Type 0
 AreCameOf handed [] = Unit {0}
 AreCameOf handed (c ∷ more) = CameOf (OrNote handed c.note) c.back × AreCameOf (OrNote handed c.note) more
 
--- the same of lists
+-- the same for lists
 pub came-of : (trips : List Carried) (handed : List Note) (P : Note → Type 0)
     → ((n : Note) → Contains handed n → P n) → AreFaithful handed trips → AreCameOf P trips
 came-of [] handed P are faithful = tt
@@ -356,7 +356,7 @@ module _ (way : Way) (trip : ℕ) (parcel : List ℕ) (start : List (List Card))
       abbrev at : ℕ → Card
       at = card_at field way.object
 
-      -- where all cards but that of one region are away
+      -- if all cards but that of one region are away
       at-rest : (home other : ℕ) → (at home).phase ≡ Live parcel → (at home).trip ≡ trip → (at other).phase ≡ Away
           → (at other).trip ≡ trip
           → ((q : ℕ) → q ≢ home → q ≢ other → ((at q).phase ≡ Away) × ((at q).trip < trip))
@@ -415,7 +415,7 @@ rests-cancel way CancelFirst = refl
 abbrev IsAnswered : Note → Effect → Type 0
 IsAnswered note e = (e.1 ≡ Some (answer_of Taken note)) ⊎ (e.1 ≡ Some (answer_of Refused note))
 
--- a cancel is answered by what came of its trip
+-- a cancel is answered by the outcome of its trip
 cancel-answer : (card : Card) (note : Note) → ((delivered Cancel card note).1 ≡ Some (answer_of Taken note))
     ⊎ ((delivered Cancel card note).1 ≡ Some (answer_of Refused note))
 cancel-answer card note = go (nat_lt card.trip note.trip) where
@@ -436,7 +436,7 @@ cancel-answer card note = go (nat_lt card.trip note.trip) where
   go true = inr refl
   go false = old (nat_lt note.trip card.trip) card.took
 
--- an object that is called back and hears what came of it
+-- an object that is called back and hears the outcome
 told-settled : (card : Card) (to : ℕ) (held : List ℕ) → card.phase ≡ Cancelling to held → (note : Note)
     → note.trip ≡ card.trip
     → IsSettled (delivered Taken card note).0.phase × IsSettled (delivered Refused card note).0.phase

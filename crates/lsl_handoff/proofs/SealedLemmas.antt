@@ -1,4 +1,4 @@
--- The bytes of a note tell their number, and end with the digest of all before it.
+-- The bytes of a note include their number, and end with the digest of all before it.
 use Rattle.std.proofs.Common.{◌≡◌, ◌∙◌, refl, sym, ap, arith, ℕ, ◌≤◌, List, length, drop}
 use Rattle.sha2.specs.Sha256.{sha256}
 use Rattle.lsl_bytes.specs.Fields.{FitsU64, u64_bytes}

@@ -1,4 +1,4 @@
--- What holds at the start of a run, and what it tells of an object.
+-- What holds at the start of a run, and what it says of an object.
 use Rattle.std.proofs.Common.{◌≡◌, ◌≢◌, ◌∙◌, refl, sym, ap, subst, ℕ, ◌-◌, ◌<◌, ◌≤◌, nat_eq, Bool, true, false, if◌then◌else◌, ◌⊎◌, List, [], length, map, replicate, get_or, inl, inr, arith}
 use Rattle.std.proofs.lemmas.Bool.{cases_eq, cases_lt, eqb-true}
 use Rattle.std.proofs.lemmas.List.{get_or-map, get_or-replicate, get_or_past, length-map, length-replicate, length-set}
@@ -89,7 +89,7 @@ module _ (homes : List ℕ) (regions : ℕ) (are : All (IsOneOf regions) homes) 
         };
       }
 
--- what holds tells where the object is
+-- what holds decides where the object is
 module _ (regions : ℕ) (run : Run) (object : ℕ) (parcel : List ℕ) (state : KeepsObject regions run object parcel) where
   at-now : ℕ → Card
   at-now = card_at run.field object

@@ -1,4 +1,4 @@
--- The bytes of a note have no fault, and the note is what stands in them.
+-- The bytes of a note have no fault, and the note is what is in them.
 use Rattle.std.proofs.Common.{◌≡◌, ◌∙◌, refl, sym, ap, arith, ℕ, ◌+◌, ◌-◌, ◌<◌, ◌≤◌, ◌^◌, ◌==◌, nat_le, Bool, true, false, ◌&&◌, List, ◌++◌, length, take, drop, get_or, append_assoc, Option, None}
 use Rattle.std.specs.Int.{w16, w32, w64, from_be_bytes}
 use Rattle.std.specs.Prelude.{codes}
@@ -53,7 +53,7 @@ flat-nine a b c d e f g h p = simp append_assoc
 flat-five : (a b c d e : List ℕ) → ((a ++ b ++ c) ++ d) ++ e ≡ a ++ (b ++ (c ++ (d ++ e)))
 flat-five a b c d e = simp append_assoc
 
--- what stands where in the fields of a note
+-- the places of a note's fields
 pub record IsLaid (fields : List ℕ) (note : Note) : Type 0 where
   pub letters : part_at fields 0 4 ≡ codes "LSLN"
   pub version : u16_at fields 4 ≡ 1

@@ -31,7 +31,7 @@ depart_fault card region to =
     then (if nat_eq to region then Some Here else if nat_eq card.trip last_trip then Some LastTrip else None)
     else Some NotLive
 
--- what a fault tells of the card: want of memory tells that there is no other
+-- what a fault says of the card: out of memory says that there is no other
 abbrev pub cause : DepartFault → Option DepartFault
 cause NotLive = Some NotLive
 cause Here = Some Here

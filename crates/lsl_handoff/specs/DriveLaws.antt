@@ -1,4 +1,4 @@
--- What a drive comes to.
+-- The result of a drive.
 use Rattle.std.specs.Prelude.{◌≡◌, ◌≢◌, ℕ, ◌+◌, ◌≤◌, Bool, ◌&&◌, nat_eq, if◌then◌else◌, List, [], ◌∷◌, ◌++◌, length, Contains, Option, Some, None}
 use Rattle.lsl_handoff.specs.declared.card.Card.{Card}
 use Rattle.lsl_handoff.specs.declared.card.Phase.TheVariants.{Away}
@@ -41,7 +41,7 @@ abbrev pub first_of : Way → ℕ → First → List Carried → First
 first_of way trip first [] = first
 first_of way trip first (c ∷ more) = first_of way trip (first_with way trip first c.back) more
 
--- where the object rests then, and the offer as which it came to the other region
+-- where the object rests then, and the offer with which it came to the other region
 abbrev pub rests_in : Way → First → ℕ
 rests_in way Neither = way.from
 rests_in way OfferFirst = way.to
@@ -52,7 +52,7 @@ landed_as Neither offer = None
 landed_as OfferFirst offer = Some offer
 landed_as CancelFirst offer = None
 
--- the object is live in this region and away in the others, none of which heard of a later trip
+-- the object is live in this region and away in the others, and none of these heard of a later trip
 pub record IsAtRest (field : List (List Card)) (object region : ℕ) : Type 0 where
   pub live : (held : List ℕ) × IsLive field object region held
   pub away : (other : ℕ) → other ≢ region → (card_at field object other).phase ≡ Away
@@ -87,8 +87,8 @@ AreFaithful handed [] = Unit {0}
 AreFaithful handed (c ∷ more) =
     WasHanded (handed ++ c.note ∷ []) c.back × AreFaithful (handed ++ c.note ∷ []) more
 
--- what the drive of an offer comes to: the object is at rest after its trip, in the other region exactly where the
--- offer came, and not behind its cancel; the other objects are as before, and all notes are past
+-- the result of the drive of an offer: the object is at rest after its trip, in the other region exactly if the offer
+-- came, and not after its cancel; the other objects are unchanged, and all notes are past
 pub record ComesToRest (old new : List (List Card)) (way : Way) (offer : Note) (first : First)
     (handed : Note → Type 0) (landed : Option Note) : Type 0 where
   pub rests : IsAtRest new way.object (rests_in way first)
@@ -109,7 +109,7 @@ next_trip field way = (card_at field way.object way.from).trip + 1
 abbrev pub next_offer : List (List Card) → Way → List ℕ → Note
 next_offer field way parcel = offer_of way.object (next_trip field way) way.from way.to parcel
 
--- each drive comes to rest, where each object was at rest and all earlier notes were past, and nothing came back that
+-- each drive comes to rest, if each object was at rest and all earlier notes were past, and nothing came back that
 -- wasn't handed over
 abbrev pub DrivesComeToRest : Type 0
 DrivesComeToRest =

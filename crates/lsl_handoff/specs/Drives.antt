@@ -1,5 +1,5 @@
--- How an object is driven from a region to another over a link: which note is carried next, and what becomes of the
--- cards by what comes back of it.
+-- How an object is driven from a region to another over a link: which note is carried next, and the effect on the cards
+-- of what comes back.
 use Rattle.std.specs.Prelude.{◌≡◌, ℕ, ◌+◌, Bool, true, false, ◌&&◌, nat_eq, nat_lt, if◌then◌else◌, List, [], ◌∷◌, Option, Some, None}
 use Rattle.lsl_handoff.specs.declared.card.Card.{Card}
 use Rattle.lsl_handoff.specs.declared.note.Note.{Note}
@@ -31,11 +31,11 @@ abbrev pub moment : Drive → List (List Card) → Moment
 moment drive field =
     record { field = field; rounds = drive.rounds; reply = drive.reply; landed = drive.landed }
 
--- how often a note asks at most
+-- the most times that a note asks
 abbrev pub most_rounds : ℕ
 most_rounds = 8
 
--- the note whose answer the object's region awaits
+-- the pending note of the object's region
 abbrev pub awaited_in : List (List Card) → Way → Option Note
 awaited_in field way =
     let card = card_at field way.object way.from in awaited card.phase card.trip way.from way.object
@@ -95,7 +95,7 @@ abbrev pub next_rounds : Option Note → ℕ → ℕ
 next_rounds (Some reply) rounds = rounds
 next_rounds None rounds = rounds + 1
 
--- what came back of the note that was carried
+-- what came back for the note that was carried
 abbrev pub hears : Way → Moment → Option Note → Moment
 hears way m back =
     let done = received m.field back in
@@ -115,13 +115,13 @@ abbrev pub after_carried : Way → Moment → List Carried → Moment
 after_carried way m [] = m
 after_carried way m (c ∷ more) = after_carried way (hears way m c.back) more
 
--- a cancel whose answer didn't come is delivered, and its answer, since both regions stand in one process
+-- a cancel without an answer is delivered, and so is its answer, since both regions are in one process
 abbrev pub answered : List (List Card) × Option Note → List (List Card)
 answered done = (received done.0 done.1).0
 
 abbrev pub rested : List (List Card) → Way → List (List Card)
 rested field way = answered (received field (awaited_in field way))
 
--- a drive behind the departure, which gives this field
+-- a drive after the departure, with this field
 abbrev pub departed : List (List Card) → Moment
 departed field = record { field = field; rounds = 0; reply = None; landed = None }

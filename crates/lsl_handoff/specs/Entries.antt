@@ -1,4 +1,4 @@
--- What was handed to a link, as bytes, and what it comes to that an object is handed over.
+-- What was sent over a link, as bytes, and the result of handing an object over.
 use Rattle.std.specs.Prelude.{◌≡◌, ◌≢◌, ◌⊎◌, ℕ, ◌<◌, ◌^◌, Bool, true, false, if◌then◌else◌, List, [], ◌∷◌, ◌++◌, Contains, Option, Some, None}
 use Rattle.std.specs.Str.{bytes_eq}
 use Rattle.lsl_ports.specs.Trips.{Trip}
@@ -15,13 +15,13 @@ abbrev pub is_same : List ℕ → Option (List ℕ) → Bool
 is_same sent None = false
 is_same sent (Some back) = bytes_eq sent back
 
--- on these trips the offer came back, and not behind the cancel
+-- on these trips the offer came back, and not after the cancel
 abbrev pub comes : List ℕ → List ℕ → List Trip → Bool
 comes offer cancel [] = false
 comes offer cancel (t ∷ trips) =
     if is_same offer t.back then true else if is_same cancel t.back then false else comes offer cancel trips
 
--- the offer of the object's next trip comes to the other region
+-- the offer of the object's next trip reaches the other region
 abbrev pub arrives : List (List Card) → Way → List ℕ → List Trip → Bool
 arrives field way parcel trips =
     comes (note_bytes (next_offer field way parcel))
@@ -40,13 +40,13 @@ module _ (objects regions : ℕ) where
   abbrev pub AreAllPast : List (List Card) → List (List ℕ) → Type 0
   AreAllPast field entries = (note : Note) → IsAmong entries note → IsPast field note
 
-  -- nothing came back, or one of the entries, or bytes that are no note
+  -- nothing came back, or one of the entries, or bytes that aren't a note
   abbrev pub CameBackOf : List (List ℕ) → Option (List ℕ) → Type 0
   CameBackOf entries None = Unit {0}
   CameBackOf entries (Some bytes) =
       Contains entries bytes ⊎ ((note : Note) → IsNoteOf objects regions bytes note → ⊥)
 
-  -- so it was on each trip, with the entries by then
+  -- this holds on each trip, with the entries by then
   abbrev pub AreCarried : List (List ℕ) → List Trip → Type 0
   AreCarried entries [] = Unit {0}
   AreCarried entries (t ∷ trips) =
@@ -63,7 +63,7 @@ module _ (objects regions : ℕ) where
     pub past : AreAllPast field entries
     pub carried : AreCarried entries trips
 
-  -- then the object is at rest after its trip, in the other region exactly where its offer came, and by that; the
+  -- then the object is at rest after its trip, in the other region exactly if its offer came, and by that offer; the
   -- others are as before, and all entries are past again
   pub record Rests (old new : List (List Card)) (way : Way) (parcel : List ℕ) (entries : List (List ℕ))
       (trips : List Trip) (landed : Option Note) : Type 0 where

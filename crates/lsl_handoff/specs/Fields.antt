@@ -6,7 +6,7 @@ use Rattle.lsl_handoff.specs.declared.note.Note.{Note}
 use Rattle.lsl_handoff.specs.Cards.{blank, home_card}
 use Rattle.lsl_handoff.specs.Rules.{Event, acts, object_of, region_of}
 
--- one of so many
+-- a number from 1 to n
 abbrev pub IsOneOf : ℕ → ℕ → Type 0
 IsOneOf most n = (1 ≤ n) × (n ≤ most)
 

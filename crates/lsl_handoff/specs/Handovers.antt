@@ -14,12 +14,12 @@ use Rattle.lsl_handoff.specs.Drives.{Moment, asks, hears, lands, rested}
 use Rattle.lsl_handoff.specs.Fields.{IsOneOf, card_at, cards_of}
 use Rattle.lsl_handoff.specs.NoteBytes.{IsNoteOf, note_bytes}
 
--- a field has so many objects, each with a card of so many regions
+-- a field has this many objects, each with a card for this many regions
 pub record HasCounts (objects regions : ℕ) (field : List (List Card)) : Type 0 where
   pub rows : length field ≡ objects
   pub cards : (object : ℕ) → IsOneOf objects object → length (cards_of field object) ≡ regions
 
--- one trip of these bytes, of which that came back
+-- one trip of these bytes, which brought that back
 abbrev pub IsOneTrip : List Trip → List ℕ → Option (List ℕ) → Type 0
 IsOneTrip trips sent back = trips ≡ record { sent = sent; back = back } ∷ []
 
@@ -27,27 +27,27 @@ IsOneTrip trips sent back = trips ≡ record { sent = sent; back = back } ∷ []
 abbrev pub IsOneTripOrNone : List Trip → List ℕ → Type 0
 IsOneTripOrNone trips sent = (trips ≡ []) ⊎ ((back : Option (List ℕ)) × IsOneTrip trips sent back)
 
--- an offer is delivered only where it may be taken
+-- an offer is delivered only if it may be taken
 abbrev pub Passes : (Note → Type 0) → NoteKind → Note → Type 0
 Passes Takes Offer note = Takes note
 Passes Takes Taken note = Unit {0}
 Passes Takes Cancel note = Unit {0}
 Passes Takes Refused note = Unit {0}
 
--- an object that is live again where it was didn't come to the other region
+-- an object that is live again where it was didn't arrive in the other region
 abbrev pub landed_unless : {A : Type 0} → Bool → Option A → Option A
 landed_unless home landed = if home then None else landed
 
--- what came back: a note, and what its parcel stands for, if it is an offer
+-- what came back: a note, and what its parcel means, if it is an offer
 abbrev pub note_of : {T : Type 0} → Option (Back T) → Option Note
 note_of None = None
 note_of (Some back) = Some back.note
 
--- an offer may be taken where its parcel stands for something
+-- an offer may be taken if its parcel means something
 abbrev pub IsTaken : {T : Type 0} → (Note → T → Type 0) → Note → Type 0
 IsTaken {T} stands offer = (parts : T) × stands offer parts
 
--- what is told with a note: of an offer, that for which its parcel stands
+-- what comes with a note: with an offer, the meaning of its parcel
 abbrev pub IsToldOf : {T : Type 0} → (Note → T → Type 0) → NoteKind → Note → Option T → Type 0
 IsToldOf stands Offer note None = ⊥
 IsToldOf stands Offer note (Some parts) = stands note parts
@@ -59,12 +59,12 @@ abbrev pub IsToldWith : {T : Type 0} → (Note → T → Type 0) → Option (Bac
 IsToldWith stands None = Unit {0}
 IsToldWith stands (Some back) = IsToldOf stands back.note.kind back.note back.parts
 
--- what the offer stands for that made the object live in the other region, or what was before
+-- what the offer means that made the object live in the other region, or what was before
 abbrev pub given_by : {T : Type 0} → Way → List (List Card) → Option (Back T) → Option T → Option T
 given_by way field None before = before
 given_by way field (Some back) before = if lands way field back.note then back.parts else before
 
--- the object came as what the offer's parcel stands for, if it came
+-- the object came as what the offer's parcel means, if it came
 abbrev pub IsGivenOf : {T : Type 0} → (Note → T → Type 0) → Option Note → Option T → Type 0
 IsGivenOf stands None None = Unit {0}
 IsGivenOf stands None (Some parts) = ⊥

@@ -13,15 +13,14 @@ IsUnderWay field object region parcel =
     ⊎ ((to : ℕ) × ((card_at field object region).phase ≡ Cancelling to parcel)))
     × ((other : ℕ) → (card_at field object other).trip ≤ (card_at field object region).trip)
 
--- the object is live in one region at most, as this parcel, and where it is live in none, it is under way as this
--- parcel
+-- the object is live in one region at most, as this parcel, and if it is live in none, it is under way as this parcel
 pub record IsInOnePlace (field : List (List Card)) (object : ℕ) (parcel : List ℕ) : Type 0 where
   pub one : (a b : ℕ) (x y : List ℕ) → IsLive field object a x → IsLive field object b y → a ≡ b
   pub live : (region : ℕ) (held : List ℕ) → IsLive field object region held → held ≡ parcel
   pub under_way : ((region : ℕ) (held : List ℕ) → IsLive field object region held → ⊥)
       → (region : ℕ) × IsUnderWay field object region parcel
 
--- so it is after each run, with the parcel of the object's last departure that did something
+-- this holds after each run, with the parcel of the object's last departure that did something
 abbrev pub RunsKeepOnePlace : Type 0
 RunsKeepOnePlace =
     (homes : List ℕ) (regions : ℕ) (events : List Event) (object : ℕ) → All (IsOneOf regions) homes →

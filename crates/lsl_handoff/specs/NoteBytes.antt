@@ -44,7 +44,7 @@ HasItsParcel Taken parcel = parcel ≡ []
 HasItsParcel Cancel parcel = parcel ≡ []
 HasItsParcel Refused parcel = parcel ≡ []
 
--- a note about one of so many objects, among so many regions
+-- a note about one of `objects` objects, among `regions` regions
 pub record IsNote (objects regions : ℕ) (note : Note) : Type 0 where
   pub object : IsOneOf objects note.object
   pub trip : note.trip < 2 ^ 64
@@ -52,7 +52,7 @@ pub record IsNote (objects regions : ℕ) (note : Note) : Type 0 where
   pub to : IsOneOf regions note.to
   pub parcel : HasItsParcel note.kind note.parcel
 
--- these are the bytes of this note; their number fits the field that tells it
+-- these are the bytes of this note; their number fits the size field
 pub record IsNoteOf (objects regions : ℕ) (bytes : List ℕ) (note : Note) : Type 0 where
   pub is : IsNote objects regions note
   pub bytes_are : bytes ≡ note_bytes note

@@ -1,4 +1,4 @@
--- What is wrong first with bytes that are no note. The fields but the last have their places.
+-- What is wrong first with bytes that aren't a note. The fields but the last have their places.
 use Rattle.std.specs.Prelude.{◌≡◌, ℕ, ◌+◌, ◌-◌, ◌==◌, nat_le, Bool, ◌&&◌, if◌then◌else◌, ◌⊎◌, List, length, take, drop, slice_index, codes, Option, Some, None, MatchResult, Result}
 use Rattle.std.specs.Int.{w16, w32, w64, from_be_bytes}
 use Rattle.std.specs.Str.{bytes_eq}
@@ -11,7 +11,7 @@ use Rattle.lsl_handoff.specs.declared.note.Note.{Note}
 use Rattle.lsl_handoff.specs.declared.note.NoteKind.{NoteKind}
 use Rattle.lsl_handoff.specs.declared.note.NoteKind.TheVariants.{Offer, Taken, Cancel, Refused}
 
--- so many bytes at a place, and the numbers that they are
+-- n bytes at a place, and the numbers that they are
 abbrev pub part_at : List ℕ → ℕ → ℕ → List ℕ
 part_at bytes place n = take n (drop place bytes)
 
@@ -24,14 +24,14 @@ u32_at bytes place = from_be_bytes w32 (part_at bytes place 4)
 abbrev pub u64_at : List ℕ → ℕ → ℕ
 u64_at bytes place = from_be_bytes w64 (part_at bytes place 8)
 
--- the digest stands behind the fields, and is theirs
+-- the digest follows the fields, and is theirs
 abbrev pub covered : List ℕ → List ℕ
 covered bytes = take (length bytes - 32) bytes
 
 abbrev pub digest_in : List ℕ → List ℕ
 digest_in bytes = drop (length bytes - 32) bytes
 
--- a fault where a test fails, and else what is wrong next
+-- a fault where a test fails, and otherwise what is wrong next
 abbrev pub unless : Bool → NoteFault → Option NoteFault → Option NoteFault
 unless good fault next = if good then next else Some fault
 
@@ -59,7 +59,7 @@ head_fault fields objects regions next =
     (unless (is_one_of regions (u32_at fields 27)) (Body 27)
     (unless (is_one_of regions (u32_at fields 31)) (Body 31) next)))))
 
--- an offer's count is that of the bytes behind it, and another note ends here
+-- an offer's count is that of the bytes after it, and another note ends here
 abbrev pub end_fault : NoteKind → List ℕ → Option NoteFault
 end_fault Offer fields =
     unless (nat_le 43 (length fields)) (Body 35) (unless (43 + u64_at fields 35 == length fields) (Body 35) None)
@@ -76,7 +76,7 @@ first_fault bytes objects regions =
     outer_fault bytes (head_fault (covered bytes) objects regions
     (end_fault (kind_of (slice_index (covered bytes) 14)) (covered bytes)))
 
--- a refusal is this fault, or want of memory
+-- a refusal is this fault, or out of memory
 abbrev pub IsRefusedBy : (NoteFault → Type 0) → Refusal NoteFault → Type 0
 IsRefusedBy First (Fault fault) = First fault
 IsRefusedBy First NoMemory = Unit {0}

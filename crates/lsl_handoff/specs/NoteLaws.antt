@@ -6,7 +6,7 @@ use Rattle.lsl_handoff.specs.declared.note.Note.{Note}
 use Rattle.lsl_handoff.specs.NoteBytes.{IsNote, IsNoteOf, note_bytes}
 use Rattle.lsl_handoff.specs.NoteFaults.{first_fault}
 
--- so many objects and regions as there can be
+-- as many objects and regions as there can be
 abbrev pub AreCounts : ℕ → ℕ → Type 0
 AreCounts objects regions = (objects < 2 ^ 32) × (regions < 2 ^ 32)
 
@@ -20,7 +20,7 @@ NotesHaveOneSpelling =
     (objects regions : ℕ) (x y : List ℕ) (note : Note) → IsNoteOf objects regions x note →
     IsNoteOf objects regions y note → x ≡ y
 
--- the bytes of each note are its own, where their number fits the field that tells it
+-- the bytes of each note are its own, if their number fits the size field
 abbrev pub NotesAreSpelled : Type 0
 NotesAreSpelled =
     (objects regions : ℕ) (note : Note) → IsNote objects regions note → length (note_bytes note) < 2 ^ 64 →

@@ -1,4 +1,4 @@
--- Events, and what each makes of the one card that it changes.
+-- Events, and the effect of each on the one card that it changes.
 use Rattle.std.specs.Prelude.{ℕ, ◌+◌, nat_eq, nat_lt, true, false, if◌then◌else◌, List, Option, Some, None}
 use Rattle.lsl_handoff.specs.declared.card.Card.{Card}
 use Rattle.lsl_handoff.specs.declared.card.Phase.{Phase}
@@ -17,7 +17,7 @@ pub data Event : Type 0 where
   Again : ℕ → ℕ → Event
   -- a region calls an object back
   GiveUp : ℕ → ℕ → Event
-  -- a note comes to the region that it is for
+  -- a note arrives at the region that it is for
   Deliver : Note → Event
 
 -- the card after an event, and the note that is sent
@@ -36,7 +36,7 @@ abbrev pub departs : Card → ℕ → ℕ → ℕ → List ℕ → Effect
 departs card region object to parcel =
     departs_unless (depart_fault card region to) card region object to parcel
 
--- the note whose answer is awaited
+-- the pending note
 abbrev pub awaited : Phase → ℕ → ℕ → ℕ → Option Note
 awaited Away trip region object = None
 awaited (Live held) trip region object = None
@@ -51,7 +51,7 @@ call_back (Leaving to held) card region object =
     (record card { phase = Cancelling to held }, Some (cancel_of object card.trip region to))
 call_back (Cancelling to held) card region object = (card, None)
 
--- the answer to an offer or a cancel of the card's trip or an earlier one: what came of that trip
+-- the answer to an offer or a cancel of the card's trip or an earlier one: the outcome of that trip
 abbrev pub known_answer : Card → Note → Note
 known_answer card note =
     if nat_lt note.trip card.trip
@@ -72,7 +72,7 @@ was_refused (Live held) = Live held
 was_refused (Leaving to held) = Leaving to held
 was_refused (Cancelling to held) = Live held
 
--- what a note of each kind does that comes to this card
+-- what a note of each kind does to the card that it reaches
 abbrev pub delivered : NoteKind → Card → Note → Effect
 delivered Offer card note =
     if nat_lt card.trip note.trip

@@ -1,4 +1,4 @@
-//! Cards: what a region knows of an object, and what each event makes of it.
+//! Cards: what a region knows of an object, and the effect of each event on it.
 
 ghost use Rattle.std.specs.Prelude.{◌≡◌, nat_eq, if◌then◌else◌, is_some, IfOk, MatchResult, OnErr};
 ghost use Rattle.lsl_handoff.specs.declared.note.NoteKind.TheVariants.{Offer, Cancel};
@@ -11,7 +11,7 @@ use crate::parcel::Parcel;
 use lsl_text::NoMemory;
 use std::mem::replace;
 
-/// Where an object stands as a region sees it.
+/// The state of an object as a region sees it.
 #[derive(Drop)]
 pub enum Phase {
     /// It isn't here.
@@ -24,8 +24,8 @@ pub enum Phase {
     Cancelling(u32, Parcel),
 }
 
-/// What a region knows of an object: the last trip that it heard of, whether it took the object on that trip, and where
-/// the object stands.
+/// What a region knows of an object: the last trip that it heard of, whether it took the object on that trip, and the
+/// object's phase.
 #[derive(Drop)]
 pub struct Card {
     pub trip: u64,
@@ -104,7 +104,7 @@ impl Card {
         Ok(Note::offer(object, trip, region, to, parcel))
     }
 
-    /// The note whose answer is awaited, once more. Takes memory for its parcel.
+    /// The pending note, once more. Takes memory for its parcel.
     pub(crate) fn again(&self, region: u32, object: u32) -> Result<Option<Note>, NoMemory>
         ensures { IfOk result (λ note. note ≡ awaited self.now.phase self.now.trip region object) }
     {
@@ -124,7 +124,7 @@ impl Card {
         matches!(&self.phase, Phase::Leaving(_, _) | Phase::Cancelling(_, _))
     }
 
-    /// The object is called back, where it is leaving.
+    /// Calls the object back, if it is leaving.
     pub(crate) fn give_up(&mut self, region: u32, object: u32) -> Option<Note>
         ensures { call_back self.old.phase self.old region object ≡ (self.new, result) }
     {
@@ -140,7 +140,7 @@ impl Card {
         }
     }
 
-    /// A note comes: the answer, which an offer and a cancel have.
+    /// Delivers a note. Returns the answer, which an offer and a cancel have.
     pub(crate) fn deliver(&mut self, note: Note) -> Option<Note>
         ensures { delivered note.kind self.old note ≡ (self.new, result) }
     {
@@ -158,7 +158,7 @@ impl Card {
         }
     }
 
-    // An offer comes. That of a later trip makes the object live.
+    // Delivers an offer. That of a later trip makes the object live.
     fn offered(&mut self, note: Note) -> Note
         ensures { delivered Offer self.old note ≡ (self.new, Some result) }
     {
@@ -174,7 +174,7 @@ impl Card {
         answer
     }
 
-    // A cancel comes. That of a later trip closes the region to that trip.
+    // Delivers a cancel. That of a later trip closes the region to that trip.
     fn called_back(&mut self, note: &Note) -> Note
         ensures { delivered Cancel self.old note.now ≡ (self.new, Some result) }
     {
@@ -187,7 +187,7 @@ impl Card {
         note.answer(NoteKind::Refused)
     }
 
-    // What came of the trip of a note, which is this card's or an earlier one.
+    // The outcome of the trip of a note, which is this card's or an earlier one.
     fn known_answer(&self, note: &Note) -> Note
         ensures { result ≡ known_answer self.now note.now }
     {

@@ -12,7 +12,7 @@ use crate::note::{Note, NoteKind};
 use crate::parcel::Parcel;
 use lsl_text::NoMemory;
 
-/// How often a note asks at most.
+/// The most times that a note asks.
 const MOST_ROUNDS: u32 = 8;
 
 /// An object that goes, and its two regions.
@@ -23,8 +23,8 @@ pub struct Way {
     pub to: u32,
 }
 
-/// A drive between two notes: how often the note that asks was carried, the answer that is to be carried, and the offer
-/// that made the object live in the other region.
+/// A drive between two notes: how often the asking note was carried, the next answer to carry, and the offer that made
+/// the object live in the other region.
 #[derive(Drop)]
 pub struct Drive {
     way: Way,
@@ -34,7 +34,8 @@ pub struct Drive {
 }
 
 impl Drive {
-    /// The object departs as this parcel. Takes memory for the parcel; after an error the field is unchanged.
+    /// Starts the drive of the object as this parcel. Takes memory for the parcel; after an error the field is
+    /// unchanged.
     pub fn depart(field: &mut Field, way: Way, parcel: Parcel) -> Result<Drive, DepartFault>
         requires { HasWay field.old way }
         ensures ok { IfOk result (λ drive. (drive.way ≡ way) × (moment drive field.new
@@ -87,8 +88,8 @@ impl Drive {
             || (self.rounds < MOST_ROUNDS && field.awaits(self.way.from, self.way.object))
     }
 
-    /// This came back of the note that was carried: it is delivered. An offer that was carried often enough is called
-    /// back then. Takes memory for the parcel of an offer that makes the object live.
+    /// Delivers what came back for the note that was carried. An offer that was carried often enough is called back
+    /// then. Takes memory for the parcel of an offer that makes the object live.
     pub fn hears(&mut self, field: &mut Field, back: Option<Note>) -> Result<(), NoMemory>
         requires way { HasWay field.old self.old.way }
         requires asks { IsSome (asks self.old.way (moment self.old field.old)) }
@@ -137,7 +138,7 @@ impl Drive {
             && field.trip(self.way.to, self.way.object) < note.trip
     }
 
-    // Where nothing is asked any more, an object that is still leaving is called back, and the cancel asks.
+    // Calls an object back that is still leaving, once nothing is asked any more; then the cancel asks.
     fn settle(&mut self, field: &mut Field)
         requires { HasWay field.old self.old.way }
         ensures settles { moment self.new field.new ≡ settled self.old.way (moment self.old field.old) }
@@ -151,8 +152,10 @@ impl Drive {
         }
     }
 
-    /// Nothing is asked any more. A cancel whose answer didn't come is delivered, and its answer, since both regions
-    /// stand in one process. Gives the offer that made the object live in the other region, if one did.
+    /// Ends the drive: nothing is asked any more.
+    ///
+    /// A cancel without an answer is delivered, and so is its answer, since both regions are in one process. Returns
+    /// the offer that made the object live in the other region, if one did.
     pub fn rest(self, field: &mut Field) -> Result<Option<Note>, NoMemory>
         requires way { HasWay field.old self.way }
         requires there { IfSome (awaited_in field.old self.way) (λ note. HasCard field.old note.object note.to) }
@@ -167,7 +170,7 @@ impl Drive {
     }
 }
 
-// A note is delivered, and gives its answer; what was lost does nothing.
+// Delivers a note, and returns its answer; what was lost does nothing.
 fn receive(field: &mut Field, note: Option<Note>) -> Option<Note>
     requires { IfSome note (λ note. HasCard field.old note.object note.to) }
     ensures { received field.old note ≡ (field.new, result) }

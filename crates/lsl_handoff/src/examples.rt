@@ -6,7 +6,7 @@ ghost use Rattle.lsl_handoff.specs.Examples.{begun, called_back, cancel, cancel_
 ghost use Rattle.lsl_handoff.specs.NoteBytes.{fields_bytes, head_bytes};
 ghost use Rattle.lsl_handoff.specs.Runs.{after};
 
-/// An object is handed over, also where the first answer is lost, or comes only to the cancel.
+/// An object is handed over, even if the first answer is lost, or comes only to the cancel.
 pub fn handed_over_in_the_end()
     ensures good { after begun good_handoff ≡ record { field = handed_over; sent = offer ∷ taken ∷ [] } }
     ensures lost { after begun lost_answer

@@ -1,4 +1,4 @@
-//! Why an object doesn't depart, and what is wrong with bytes that are no note.
+//! Why an object doesn't depart, and what is wrong with bytes that aren't a note.
 
 ghost use Rattle.std.specs.Prelude.{◌≡◌};
 ghost use Rattle.lsl_text.specs.declared.Refusal.TheVariants.{Fault};
@@ -11,7 +11,7 @@ use lsl_text::{NoMemory, Refusal};
 pub enum DepartFault {
     /// It isn't live in the region.
     NotLive,
-    /// It is to go to the region where it is.
+    /// It would go to the region where it is.
     Here,
     /// Its card has the greatest trip number.
     LastTrip,
@@ -28,12 +28,12 @@ impl From<NoMemory> for DepartFault {
     }
 }
 
-/// Why bytes are no note, the first fault in the order of the tests.
+/// Why bytes aren't a note: the first fault in the order of the tests.
 #[derive(Clone, Copy, Debug, PartialEq, Eq)]
 pub enum NoteFault {
-    /// There are this many bytes, and that many are wanted.
+    /// There are `found` bytes; the note says `wanted`.
     Size { found: u64, wanted: u64 },
-    /// The bytes have this digest, and that one stands behind them.
+    /// The digest of the bytes is `found`; the note says `wanted`.
     Digest { found: [u8; 32], wanted: [u8; 32] },
     /// The note has a version that isn't known.
     Version(u16),

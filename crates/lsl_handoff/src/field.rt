@@ -31,7 +31,7 @@ impl Model for Cards {
 }
 
 impl Cards {
-    // The cards of an object that is at home in this region, out of so many.
+    // The cards of an object that is at home in this region, out of `regions`.
     fn at_start(alloc: Global, regions: u32, home: u32) -> Result<Cards, NoMemory>
         requires { IsOneOf regions home }
         ensures { IfOk result (λ cards. cards ≡ cards_at_start regions home) }
@@ -51,7 +51,7 @@ impl Cards {
         region >= 1 && region as usize <= self.list.len()
     }
 
-    // The first region whose card is live.
+    // The first region with a live card.
     fn live(&self) -> Option<u32>
         ensures { IsFirstLive self.now result }
     {
@@ -80,7 +80,8 @@ impl Model for Field {
 }
 
 impl Field {
-    /// The cards of objects that are at home in these regions, out of so many. Takes a card for each object and region.
+    /// The cards of objects that are at home in these regions, out of `regions`. Takes a card for each object and
+    /// region.
     pub fn new(alloc: Global, homes: &[u32], regions: u32) -> Result<Field, NoMemory>
         requires { All (IsOneOf regions) homes.now }
         ensures { IfOk result (λ field. field ≡ field_at_start homes.now regions) }
@@ -102,8 +103,8 @@ impl Field {
         self.objects[(object - 1) as usize].has(region)
     }
 
-    /// The object leaves this region for another as this parcel: the offer that is sent. Takes memory for the offer's
-    /// parcel; after an error the field is unchanged.
+    /// Starts the object's trip from this region to another as this parcel, and returns the offer to send. Takes memory
+    /// for the offer's parcel; after an error the field is unchanged.
     pub fn depart(
         &mut self,
         region: u32,
@@ -156,7 +157,8 @@ impl Field {
         self.objects[(object - 1) as usize].list[(region - 1) as usize].trip
     }
 
-    /// The object is called back: the cancel that is sent, and none exactly where it isn't leaving. Takes no memory.
+    /// Calls the object back. Returns the cancel to send, and none exactly if the object isn't leaving. Takes no
+    /// memory.
     pub fn give_up(&mut self, region: u32, object: u32) -> Option<Note>
         requires { HasCard self.old object region }
         ensures { does self.old (GiveUp region object) ≡ (self.new, result) }
@@ -164,7 +166,8 @@ impl Field {
         self.objects[(object - 1) as usize].list[(region - 1) as usize].give_up(region, object)
     }
 
-    /// A note comes to the region that it is for: the answer, and none exactly to a note that is one. Takes no memory.
+    /// Delivers a note to the region that it is for. Returns the answer, and none exactly to a note that is one. Takes
+    /// no memory.
     pub fn deliver(&mut self, note: Note) -> Option<Note>
         requires { HasCard self.old note.object note.to }
         ensures { does self.old (Deliver note) ≡ (self.new, result) }
@@ -172,7 +175,7 @@ impl Field {
         self.objects[(note.object - 1) as usize].list[(note.to - 1) as usize].deliver(note)
     }
 
-    /// The first region where the object is live, and none exactly where it is live in none. Walks the object's cards;
+    /// The first region where the object is live, and none exactly if it is live in none. Walks the object's cards;
     /// takes no memory.
     pub fn live(&self, object: u32) -> Option<u32>
         requires { IsOneOf (length self.now) object }

@@ -1,4 +1,4 @@
-//! An object is handed over: the notes of its drive go over a link as bytes.
+//! Hands an object over: the notes of its drive go over a link as bytes.
 
 ghost use Rattle.std.specs.Prelude.{◌≡◌, ◌<◌, ◌≤◌, ◌^◌, [], List, ℕ, Option, Some, None, length, option_map, IfOk, IfSome, IsSome, MatchOption, MatchResult, OnErr, OnOk};
 ghost use Rattle.lsl_ports.specs.Trips.{Trip, Went};
@@ -23,9 +23,9 @@ use lsl_ports::{Link, LinkFault};
 use lsl_text::{NoMemory, Refusal};
 use std::alloc::{AllocError, Global};
 
-/// For what the parcels of offers stand: they are read, but those of own offers needn't be.
+/// What the parcels of offers mean: they are read, but those of own offers needn't be.
 pub trait Parcels {
-    /// What a parcel stands for.
+    /// What a parcel means.
     type Parts: Drop;
 
     ghost objects: { Self → ℕ };
@@ -36,31 +36,33 @@ pub trait Parcels {
 
     ghost is_own: { Self → ANote → Type 0 };
 
-    /// What the parcel of an offer stands for; none where it stands for nothing, so that the offer may not be taken.
+    /// What the parcel of an offer means; none if it means nothing, so that the offer may not be taken.
     fn read(&self, offer: &Note) -> Result<Option<Self::Parts>, NoMemory>
         requires { IsNote (objects self.now) (regions self.now) offer.now }
         ensures { IfOk result (λ parts. MatchOption parts ((p : Self.Parts) → stands self.now offer.now p → ⊥)
             (stands self.now offer.now)) };
 
-    /// What the parcel of an own offer stands for.
+    /// What the parcel of an own offer means.
     fn own(&self, offer: &Note) -> Result<Self::Parts, NoMemory>
         requires note { IsNote (objects self.now) (regions self.now) offer.now }
         requires own { is_own self.now offer.now }
         ensures { IfOk result (stands self.now offer.now) };
 }
 
-/// What came back: a note, and what its parcel stands for, if it is an offer.
+/// What came back: a note, and what its parcel means, if it is an offer.
 #[derive(Drop)]
 pub struct Back<T: Drop> {
     note: Note,
     parts: Option<T>,
 }
 
-/// The object departs as this parcel, and is driven over the link until it rests. Gives what the offer stands for that
-/// made it live in the other region, if one did and the object isn't live again where it was. What comes back and can't
-/// be read as a note is lost, and so is an offer whose parcel stands for nothing; a note that comes back as it was sent
-/// isn't read. At most 32 notes are carried. After want of memory the field is somewhere on the way; after another
-/// fault it is unchanged, and nothing was carried.
+/// Starts the object's drive as this parcel, and drives it over the link until it rests.
+///
+/// Returns the parts from the offer that made it live in the other region, if one did and the object isn't live again
+/// where it was. What comes back and can't be read as a note is lost, and so is an offer with a parcel that means
+/// nothing; a note that comes back as it was sent isn't read. At most 32 notes are carried.
+///
+/// When out of memory, the field is somewhere on the way; after another fault it is unchanged, and nothing was carried.
 pub fn hand_over<L: Link, P: Parcels>(
     alloc: Global,
     field: &mut Field,
@@ -99,8 +101,8 @@ pub fn hand_over<L: Link, P: Parcels>(
     Ok(came(given, field, way))
 }
 
-// What came back is heard. Gives what the offer stands for, if it made the object live in the other region, or what was
-// given before.
+// Hears what came back. Returns the parts of the offer, if it made the object live in the other region, or the earlier
+// parts.
 fn hear<T: Drop>(
     drive: &mut Drive,
     field: &mut Field,
@@ -129,7 +131,7 @@ fn hear<T: Drop>(
     }
 }
 
-// What came to the other region, unless the object is live again where it was.
+// What arrived in the other region, unless the object is live again where it was.
 fn came<T: Drop>(given: Option<T>, field: &Field, way: Way) -> Option<T>
     requires { HasCard field.now way.object way.from }
     ensures { result ≡ landed_unless (is_live (card_at field.now way.object way.from).phase) given }
@@ -146,7 +148,7 @@ fn trip_fits(trip: u64)
     ensures { trip < 2 ^ 64 }
 {}
 
-// Carries a note, and gives what came back.
+// Carries a note, and returns what came back.
 fn carry<L: Link, P: Parcels>(
     alloc: Global,
     note: Note,
@@ -190,7 +192,7 @@ fn as_sent<P: Parcels>(note: Note, parcels: &P) -> Result<Back<P::Parts>, NoMemo
     Ok(Back { note, parts })
 }
 
-// Hands bytes over, and gives those that came back, or none where the link failed.
+// Sends bytes, and returns those that came back, or none if the link failed.
 fn carried<L: Link>(alloc: Global, sent: &[u8], link: &mut L) -> Result<Option<Vec<u8>>, NoMemory>
     ensures went { (trips : List Trip) × Went L.gives (L.trips link.old) (L.trips link.new) trips
         × MatchResult result (λ back. IsOneTrip trips sent.now (option_map (λ b. b.items) back)) (λ _. trips ≡ []) }
@@ -203,7 +205,7 @@ fn carried<L: Link>(alloc: Global, sent: &[u8], link: &mut L) -> Result<Option<V
     }
 }
 
-// The note of bytes that came back, where they can be read and it may be delivered.
+// The note of bytes that came back, if they can be read and it may be delivered.
 fn read_back<P: Parcels>(
     alloc: Global,
     bytes: &[u8],
@@ -223,7 +225,7 @@ fn read_back<P: Parcels>(
     }
 }
 
-// The note, unless it is an offer whose parcel stands for nothing.
+// The note, unless it is an offer with a parcel that means nothing.
 fn pass<P: Parcels>(note: Note, parcels: &P) -> Result<Option<Back<P::Parts>>, NoMemory>
     requires { IsNote (P.objects parcels.now) (P.regions parcels.now) note }
     ensures { IfOk result (λ passed.

@@ -5,15 +5,15 @@ ghost use Rattle.lsl_handoff.specs.Laws.{RunsKeepOnePlace};
 ghost use Rattle.lsl_handoff.specs.NoteLaws.{NotesAreOne, NotesAreSpelled, NotesHaveNoFault, NotesHaveOneSpelling, OthersHaveOne};
 
 /// After each run, whatever is lost, repeated or late, each object is live in one region at most, as the parcel of its
-/// last departure that did something; where it is live in none, some region holds it as that parcel and is leaving or
+/// last departure that did something. If it is live in none, some region holds it as that parcel and is leaving or
 /// cancelling, at the greatest trip of its cards.
 pub fn an_object_is_in_one_place()
     ensures { RunsKeepOnePlace }
 {}
 
-/// Each drive comes to rest, where each object was at rest, all earlier notes were past, and nothing came back that
-/// wasn't handed over: the object is live in the other region, as the parcel of its departure, exactly where its
-/// offer came and not behind its cancel, and else where it was; and all notes are past again.
+/// Each drive comes to rest, if each object was at rest, all earlier notes were past, and nothing came back that wasn't
+/// handed over. The object is live in the other region, as the parcel of its departure, exactly if its offer came and
+/// not after its cancel, and otherwise where it was; and all notes are past again.
 pub fn each_drive_comes_to_rest()
     ensures { DrivesComeToRest }
 {}

@@ -22,7 +22,7 @@ const LETTERS: [u8; 4] = *b"LSLN";
 /// The version of notes.
 const VERSION: u16 = 1;
 
-/// What stands in a note but its parcel.
+/// The fields of a note, without its parcel.
 #[derive(Clone, Copy)]
 struct Head {
     kind: NoteKind,
@@ -32,7 +32,9 @@ struct Head {
     to: u32,
 }
 
-/// The note of these bytes, about one of so many objects and among so many regions, or the first fault of the bytes.
+/// The note of these bytes, about one of `objects` objects and among `regions` regions, or the first fault of the
+/// bytes.
+///
 /// Walks the bytes once, and once more for their digest; takes memory for an offer's parcel alone, which is copied.
 pub fn read_note(
     alloc: Global,
@@ -48,7 +50,7 @@ pub fn read_note(
     parse(alloc, bytes, objects, regions)
 }
 
-// What stands in the bytes, where nothing is wrong with them.
+// The note in the bytes, if nothing is wrong with them.
 fn parse(
     alloc: Global,
     bytes: &[u8],
@@ -112,7 +114,7 @@ fn kind_of(n: u8) -> Option<NoteKind>
     }
 }
 
-// The number of one of so many.
+// A number from 1 to `most`.
 fn read_number(fields: &[u8], place: usize, most: u32) -> Result<u32, Refusal<NoteFault>>
     requires { place + 4 ≤ length fields.now }
     ensures { MatchResult result (λ n. (n ≡ u32_at fields.now place) × (is_one_of most n ≡ true))
@@ -141,7 +143,7 @@ fn read_parcel(alloc: Global, fields: &[u8], kind: NoteKind) -> Result<Parcel, R
     }
 }
 
-// Whether an offer's count is that of the bytes behind it, and another note ends where it should.
+// Whether an offer's count is that of the bytes after it, and another note ends where it should.
 fn ends_well(fields: &[u8], kind: NoteKind) -> bool
     requires { 35 ≤ length fields.now }
     ensures { MatchBool result (end_fault kind fields.now ≡ None) (end_fault kind fields.now ≡ Some (Body 35)) }

@@ -15,7 +15,7 @@ use sha2::{Digest, Sha256};
 /// How many bytes a note has at least: its head, its fields without a parcel, and its digest.
 const LEAST_BYTES: usize = 67;
 
-/// Where the size stands.
+/// The place of the size.
 const SIZE_PLACE: usize = 6;
 
 /// How many bytes the digest has.
@@ -61,7 +61,7 @@ pub fn digest_of(bytes: &[u8]) -> [u8; 32]
     hasher.finalize()
 }
 
-/// So many bytes at a place.
+/// `N` bytes at a place.
 pub fn part_at<const N: usize>(bytes: &[u8], place: usize) -> [u8; N]
     requires { place + N ≤ length bytes.now }
     ensures { result ≡ part_at bytes.now place N }

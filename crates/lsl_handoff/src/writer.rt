@@ -12,10 +12,10 @@ use std::alloc::Global;
 /// The version of the notes that are written.
 const VERSION: u16 = 1;
 
-/// How many bytes stand before the parcel.
+/// The number of bytes before the parcel.
 const FIXED_BYTES: u64 = 35;
 
-/// How many bytes tell an offer's count.
+/// The number of bytes of an offer's count.
 const COUNT_BYTES: u64 = 8;
 
 /// The bytes of a note: 67, and for an offer 8 and its parcel's more. Walks the note once, and its bytes once for
@@ -85,7 +85,7 @@ fn number_of(kind: NoteKind) -> u8
     }
 }
 
-// Appends the parcel of an offer behind the count of its bytes.
+// Appends the count of an offer's parcel, and its bytes.
 fn write_parcel(out: &mut Vec<u8>, note: &Note) -> Result<(), NoMemory>
     ensures { OnOk result (out.new.items ≡ out.old.items ++ parcel_bytes note.now.kind note.now.parcel) }
 {

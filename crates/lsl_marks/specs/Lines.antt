@@ -23,7 +23,7 @@ slot_word (Local place) = decimal place
 slot_word (Global place) = decimal place
 slot_word Result = codes "result"
 
--- a told text without its quotes
+-- a reported text without its quotes
 abbrev pub within_quotes : List ℕ → List ℕ
 within_quotes told = if nat_lt (length told) 2 then told else slice_range told 1 (length told - 1)
 
@@ -38,7 +38,7 @@ abbrev pub after_byte : ℕ → List ℕ → List ℕ
 after_byte b [] = []
 after_byte b (c ∷ rest) = if b == 92 then rest else c ∷ rest
 
--- two dots where a text may have been cut
+-- two dots where a text may have been truncated
 abbrev pub cut_of : List ℕ → List ℕ
 cut_of inner = if nat_lt (told_length inner) 1021 then [] else 46 ∷ 46 ∷ []
 

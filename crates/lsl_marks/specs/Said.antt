@@ -7,13 +7,13 @@ use Rattle.lsl_marks.specs.declared.entries.Told.TheVariants.{Entries, Differs}
 use Rattle.lsl_marks.specs.declared.entries.What.{What}
 use Rattle.lsl_marks.specs.declared.entries.What.TheVariants.{At, Set, Said}
 
--- a line that was said, with its end; nothing of a marker and of a value
+-- a printed line, with its end; nothing for a marker and a value
 abbrev pub said_of : What → List ℕ
 said_of (At arrival) = []
 said_of (Set value) = []
 said_of (Said line) = line.now ++ 10 ∷ []
 
--- all lines that were said, in order
+-- all printed lines, in order
 abbrev pub said_in : List Entry → List ℕ
 said_in entries = flat_map (λ (e : Entry). said_of e.what) entries
 

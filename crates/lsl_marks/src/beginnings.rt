@@ -1,4 +1,4 @@
-//! What a copy tells before a statement.
+//! What a copy reports before a statement.
 
 use crate::blocks::Open;
 use crate::markers::{After, Moment};

@@ -67,8 +67,8 @@ impl Writer<'_, '_> {
         self.open.last()?.statement
     }
 
-    /// Closes a block before its last brace. Gives the variables that its last statement may have changed; those of its
-    /// own are told here.
+    /// Closes a block before its last brace. Returns the variables that its last statement may have changed; its own
+    /// are reported here.
     fn close_block(&mut self, brace: usize) -> Result<Vec<Variable>, NoMemory> {
         let Some(block) = self.open.pop() else {
             return Ok(Vec::new(self.alloc));
@@ -92,7 +92,7 @@ impl Writer<'_, '_> {
         self.seen(block.carried)
     }
 
-    /// Those of these variables that their names mean here.
+    /// Those of these variables that their names refer to here.
     pub fn seen(&self, variables: Vec<Variable>) -> Result<Vec<Variable>, NoMemory> {
         let mut seen = Vec::new(self.alloc);
         for variable in &variables {
@@ -146,7 +146,7 @@ impl Writer<'_, '_> {
         Ok(())
     }
 
-    /// Ends a statement that is no block. Gives the variables that it may have changed.
+    /// Ends a statement that isn't a block. Returns the variables that it may have changed.
     fn end_plain(&mut self, statement: &Statement) -> Result<Vec<Variable>, NoMemory> {
         let Some(open) = self.open.pop() else {
             return Ok(Vec::new(self.alloc));
@@ -165,7 +165,7 @@ impl Writer<'_, '_> {
         }
     }
 
-    /// The marker before a statement of a block; before a label only where something is told.
+    /// The marker before a statement of a block; before a label only if something is reported.
     fn begin_in_block(&mut self, statement: &Statement) -> Result<(), NoMemory> {
         let carried = self.take_carried();
         self.copy_to(start_at(self.source.tokens, statement.first))?;

@@ -8,7 +8,7 @@ use crate::writer::{Place, Sign, Writer};
 use lsl_text::NoMemory;
 
 impl Writer<'_, '_> {
-    /// The markers at the beginning of a body, which gets braces where it has none.
+    /// The markers at the start of a body, which gets braces where it has none.
     pub fn begin_body(&mut self, body: &Statement) -> Result<(), NoMemory> {
         if body.form == Form::Block {
             self.copy_to(end_at(self.source.tokens, body.first))?;

@@ -1,4 +1,4 @@
-//! The active calls of a script, as its markers tell them.
+//! The active calls of a script, as its markers report them.
 
 use crate::markers::{Marker, Moment};
 use lsl_text::NoMemory;
@@ -15,7 +15,7 @@ pub struct Frame {
     pub returning: Option<usize>,
 }
 
-/// A script that runs: its calls, the innermost last, and the ticks that pass when it goes on.
+/// A script that runs: its calls, the innermost last, and the ticks that pass when it continues.
 #[derive(Drop)]
 pub struct Running {
     pub stack: Vec<Frame>,
@@ -50,8 +50,8 @@ impl Frame {
         }
     }
 
-    /// Whether it is over at this marker: one of another routine, or a `return` was begun whose own it isn't. That one
-    /// is the next after the statement's.
+    /// Whether it is over at this marker: the marker is of another routine, or a `return` was begun and the marker
+    /// isn't the next after its statement's.
     pub fn is_left(&self, number: usize, marker: &Marker) -> bool {
         match self.returning {
             Some(returning) => {

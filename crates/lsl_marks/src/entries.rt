@@ -2,7 +2,7 @@
 
 use crate::variables::Variable;
 
-/// An entry of a trace, or a value that was told at the entry before.
+/// An entry of a trace, or a value that was reported at the entry before.
 #[derive(Clone, Copy)]
 pub struct Entry<'a> {
     pub step: u64,
@@ -19,7 +19,7 @@ pub enum What<'a> {
     Said(&'a [u8]),
 }
 
-/// A script came to a marker. `serial` numbers the call that is active, and `outer` the one that called it, or is 0.
+/// A script reached a marker. `serial` numbers the call that is active, and `outer` the one that called it, or is 0.
 #[derive(Clone, Copy)]
 pub struct Arrival {
     pub script: usize,
@@ -28,7 +28,7 @@ pub struct Arrival {
     pub outer: u64,
 }
 
-/// What a variable has, in quotes. `serial` numbers its call, and is 0 of a global.
+/// The value of a variable, in quotes. `serial` numbers its call, and is 0 for a global.
 #[derive(Clone, Copy)]
 pub struct Value<'a> {
     pub serial: u64,
@@ -36,7 +36,7 @@ pub struct Value<'a> {
     pub told: &'a [u8],
 }
 
-/// Who did something else than without markers.
+/// What behaved differently than without markers.
 #[derive(Clone, Copy, Debug, PartialEq, Eq)]
 pub enum Guilty {
     /// The script of this number.

@@ -1,5 +1,5 @@
-//! Scripts with markers: copies that tell which statement comes and what values variables have, and what such copies
-//! told.
+//! Scripts with markers: copies that report which statement comes and what values variables have, and the journals of
+//! such copies.
 #![tactic(auto)]
 
 mod beginnings;

@@ -15,7 +15,7 @@ use itoa::Buffer;
 use lsl_text::{NoMemory, push_quoted};
 use lsl_value::Kind;
 
-/// A told text of so many bytes may have been cut.
+/// A reported text of this many bytes may have been truncated.
 const MAYBE_CUT: usize = 1021;
 
 /// Appends a word after a space.
@@ -207,7 +207,7 @@ fn push_said(out: &mut Vec<u8>, entry: &Entry<'_>, line: &[u8]) -> Result<(), No
     push_word(out, line)
 }
 
-/// Appends a told value after a space. It was told in quotes.
+/// Appends a reported value after a space. It was reported in quotes.
 fn push_value(out: &mut Vec<u8>, kind: Kind, told: &[u8]) -> Result<(), NoMemory>
     ensures { OnOk result (out.new.items ≡ out.old.items ++ spaced (value_word kind told.now)) }
 {
@@ -228,7 +228,7 @@ fn push_value(out: &mut Vec<u8>, kind: Kind, told: &[u8]) -> Result<(), NoMemory
     }
 }
 
-/// Appends two dots where the text may have been cut.
+/// Appends two dots if the text may have been truncated.
 fn push_cut(out: &mut Vec<u8>, inner: &[u8]) -> Result<(), NoMemory>
     ensures { OnOk result (out.new.items ≡ out.old.items ++ cut_of inner.now) }
 {
@@ -249,7 +249,7 @@ fn within_quotes(told: &[u8]) -> &[u8]
     }
 }
 
-/// Whether a text that is quoted so can't have been cut.
+/// Whether a text with this quoted form can't have been truncated.
 #[tactic(auto, using(crate::proofs::Lengths::length_first))]
 fn is_short(inner: &[u8]) -> bool
     ensures { result ≡ nat_lt (told_length inner.now) 1021 }
@@ -276,7 +276,7 @@ fn after_byte(b: u8, more: &[u8]) -> &[u8]
     }
 }
 
-/// Appends the elements of a list, between which a broken bar was told.
+/// Appends the elements of a list, which was reported with broken bars between them.
 fn push_elements(out: &mut Vec<u8>, inner: &[u8]) -> Result<(), NoMemory>
     ensures { OnOk result (out.new.items ≡ out.old.items ++ elements_of inner.now) }
 {
@@ -289,7 +289,7 @@ fn push_elements(out: &mut Vec<u8>, inner: &[u8]) -> Result<(), NoMemory>
     Ok(())
 }
 
-/// Appends bytes, with an end and a beginning of quotes in place of each broken bar.
+/// Appends bytes, with a closing and an opening quote in place of each broken bar.
 fn push_parted(out: &mut Vec<u8>, inner: &[u8]) -> Result<(), NoMemory>
     ensures { OnOk result (out.new.items ≡ out.old.items ++ parted inner.now) }
 {

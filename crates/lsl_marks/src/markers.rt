@@ -1,4 +1,4 @@
-//! Markers: where a copy tells, and what.
+//! Markers: where a copy reports, and what.
 
 use crate::variables::Variable;
 use lsl_value::Kind;
@@ -16,7 +16,7 @@ pub enum Moment {
     Body,
     /// A routine is about to be left.
     Leave,
-    /// Only values are told.
+    /// Only values are reported.
     Note,
 }
 

@@ -1,4 +1,4 @@
-//! The reading of what copies told.
+//! The reading of the copies' journals.
 
 use crate::calls::{Frame, Running, outer_of};
 use crate::entries::{Arrival, Entry, Guilty, Value, What};
@@ -7,7 +7,7 @@ use crate::markers::{After, Marker, Moment};
 use crate::variables::Slot;
 use lsl_text::NoMemory;
 
-/// A marker whose values come: the next is the variable of this number.
+/// A marker that is followed by values: the next is the variable of this number.
 #[derive(Clone, Copy)]
 pub struct Awaited {
     pub script: usize,
@@ -37,7 +37,7 @@ pub struct Reader<'a> {
 }
 
 impl<'a> Reader<'a> {
-    /// Reads a line. Answers who didn't come through a marker.
+    /// Reads a line. Returns what didn't come through a marker.
     pub fn read(&mut self, whole: &'a [u8]) -> Result<Option<Guilty>, NoMemory> {
         let line = Line::of(whole);
         if let Some(awaited) = self.awaited {
@@ -60,7 +60,7 @@ impl<'a> Reader<'a> {
         Ok(None)
     }
 
-    /// The number of the marker that a line tells.
+    /// The number of a line's marker.
     fn marker_in(&self, line: &Line<'a>) -> Option<usize> {
         let told = told_by_owner(line.whole).strip_prefix(self.played.mark)?;
         let number = number_of(told.strip_suffix(b"\"")?)?;
@@ -80,7 +80,7 @@ impl<'a> Reader<'a> {
         self.running.get_mut(script.checked_sub(1)?)
     }
 
-    /// A script goes on: the ticks at which it stood have passed, and these.
+    /// A script continues: the ticks that it waited at have passed, and these.
     fn pass(&mut self, script: usize, ticks: u64) {
         let pending = match self.running(script) {
             Some(running) => std::mem::replace(&mut running.pending, 0),
@@ -147,8 +147,8 @@ impl<'a> Reader<'a> {
         Ok(None)
     }
 
-    /// A routine was entered: a tick passes, but before a handler it has passed. Calls are over whose `return` doesn't
-    /// call the routine.
+    /// Enters a routine: a tick passes, but before a handler it has passed. Calls end if their `return` doesn't call
+    /// the routine.
     fn enter(&mut self, script: usize, marker: &Marker) -> Result<Option<u64>, NoMemory> {
         let markers = self.played.markers;
         self.serial = self.serial.saturating_add(1);
@@ -175,7 +175,7 @@ impl<'a> Reader<'a> {
         Ok((!is_handler).then_some(1))
     }
 
-    /// A marker within a routine: the calls of others are over. Answers the ticks that have passed.
+    /// A marker within a routine: the calls of others are over. Returns the ticks that have passed.
     fn come(&mut self, script: usize, number: usize, marker: &Marker) -> Option<u64> {
         let running = self.running(script)?;
         for _ in 1..running.stack.len() {

@@ -1,4 +1,4 @@
-//! The results of functions in a copy: `return e;` becomes `{x=e; .. return x;}`, where nobody reads the variable x any
+//! The results of functions in a copy: `return e;` becomes `{x=e; ... return x;}`, if nothing reads the variable x any
 //! more.
 
 use crate::markers::{After, Moment, kind_word};
@@ -32,7 +32,7 @@ impl Writer<'_, '_> {
         Ok(())
     }
 
-    /// What holds the result of a `return`, where it is told.
+    /// What holds the result of a `return`, if it is reported.
     fn held(&self, statement: &Statement) -> Result<Option<Held>, NoMemory> {
         let routine = self.source.outline.routines.get(self.routine);
         let Some(kind) = routine.map_or(None, |it| it.kind) else {

@@ -79,7 +79,7 @@ pub struct Outline {
 }
 
 impl Outline {
-    /// The parts of a script of these tokens.
+    /// Finds the parts of a script of these tokens.
     pub fn find(alloc: Global, tokens: &[Token]) -> Result<Outline, NoMemory> {
         let mut finder = Finder {
             tokens,
@@ -302,7 +302,7 @@ impl Finder<'_> {
         self.complete(number, values.to.saturating_add(2))
     }
 
-    /// A statement ends before the token at `end`, and so do those around it whose last body it is.
+    /// Ends a statement before the token at `end`, and those around it that end with it.
     fn complete(&mut self, number: usize, end: usize) -> Result<(), NoMemory> {
         self.next = end;
         self.end(number, end)?;

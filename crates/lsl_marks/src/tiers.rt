@@ -1,13 +1,13 @@
-//! How much a copy tells.
+//! How much a copy reports.
 
 use lsl_value::Kind;
 
-/// What a copy tells, the most first.
+/// What a copy reports, the most first.
 #[derive(Clone, Copy, Debug, PartialEq, Eq)]
 pub enum Tier {
     /// All values, and each result, for which a variable may be added.
     All,
-    /// All values, and the results that a variable at hand can hold.
+    /// All values, and the results that an existing variable can hold.
     Held,
     Integers,
     NoValues,
@@ -21,7 +21,7 @@ impl Tier {
         *self as u8
     }
 
-    /// The one that tells less.
+    /// The next tier, which reports less.
     pub fn next(&self) -> Tier {
         match self {
             Tier::All => Tier::Held,

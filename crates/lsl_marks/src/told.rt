@@ -1,5 +1,5 @@
-//! What the copies told: their journal as entries, each at its step and segment, and the check that without them it is
-//! the plain journal.
+//! The copies' journal as entries, each at its step and segment, and the check that without the markers it is the plain
+//! journal.
 
 ghost use Rattle.std.specs.Prelude.{◌≡◌, ◌++◌, ◌∷◌, IfOk, IfSome};
 ghost use Rattle.lsl_marks.specs.Said.{AreNowhere, Has, Says, said_in, said_of};
@@ -19,7 +19,7 @@ pub fn read_told<'a>(
     journal: &'a [u8],
     plain: &[u8],
 ) -> Result<Told<'a>, NoMemory>
-    // The lines that were said are those of the plain journal.
+    // The entries' own lines are those of the plain journal.
     ensures { IfOk result (λ told. Says told plain.now) }
 {
     let mut reader = Reader {
@@ -79,7 +79,7 @@ fn checked<'a>(entries: Vec<Entry<'a>>, plain: &[u8]) -> Told<'a>
     }
 }
 
-/// Who said something else than the plain journal has.
+/// What printed something else than the plain journal has.
 fn difference(entries: &[Entry<'_>], plain: &[u8]) -> Option<Guilty>
     ensures { result ≡ None → said_in entries.now ≡ plain.now }
 {
@@ -97,7 +97,7 @@ fn difference(entries: &[Entry<'_>], plain: &[u8]) -> Option<Guilty>
     }
 }
 
-/// What follows in a journal after what was said.
+/// What follows in a journal after what was printed.
 fn rest_after<'a>(journal: &'a [u8], what: &What<'_>) -> Option<&'a [u8]>
     ensures { IfSome result (λ rest. said_of what.now ++ rest.now ≡ journal.now) }
 {

@@ -11,7 +11,7 @@ use std::alloc::{AllocError, Global};
 /// How many bytes a script has at most.
 pub const MAX_SCRIPT_BYTES: usize = 65_536;
 
-/// A script's file: its name, its text and its parts, and what its copy tells.
+/// A script's file: its name, its text and its parts, and what its copy reports.
 #[derive(Drop)]
 pub struct Unit {
     pub name: Vec<u8>,
@@ -50,7 +50,7 @@ impl Unit {
         })
     }
 
-    /// The copy of the script, which is the unit at this place. Its markers are added, and say what begins with `mark`.
+    /// The copy of the script, which is the unit at this place. Adds its markers, which say what begins with `mark`.
     pub fn copy(
         &self,
         alloc: Global,

@@ -7,8 +7,8 @@ use lsl_text::NoMemory;
 use lsl_value::Kind;
 use std::alloc::Global;
 
-/// Where a variable is kept: at a place among its routine's or among the globals. The result of a routine is told as if
-/// it were one.
+/// Where a variable is kept: at a place among its routine's or among the globals. The result of a routine is reported
+/// as if it were one.
 #[derive(Clone, Copy, Debug, PartialEq, Eq)]
 pub enum Slot {
     Local(usize),
@@ -55,13 +55,13 @@ impl<'a> Scope<'a> {
         })
     }
 
-    /// A routine begins.
+    /// Begins a routine.
     pub fn clear(&mut self) {
         self.locals.truncate(0);
         self.slots = 0;
     }
 
-    /// A variable is declared.
+    /// Declares a variable.
     pub fn declare(&mut self, name: usize, kind: Kind) -> Result<Variable, NoMemory> {
         let variable = Variable {
             name,
@@ -73,7 +73,7 @@ impl<'a> Scope<'a> {
         Ok(variable)
     }
 
-    /// The variable that a name means.
+    /// The variable that a name refers to.
     pub fn visible(&self, name: &[u8]) -> Option<Variable> {
         let own = self.locals.iter().rev();
         let mut all = own.chain(self.globals.iter());
@@ -81,7 +81,7 @@ impl<'a> Scope<'a> {
             .copied()
     }
 
-    /// Whether a variable's name means it here.
+    /// Whether a variable's name refers to it here.
     pub fn sees(&self, variable: &Variable) -> bool {
         match self.visible(name_at(self.tokens, variable.name)) {
             Some(found) => found.slot == variable.slot,
@@ -99,8 +99,8 @@ impl<'a> Scope<'a> {
         Ok(())
     }
 
-    /// A local of the kind, whose value nobody reads once a result is known: of the names, in the order in which they
-    /// were declared first, the last that means one.
+    /// A local of the kind with a value that nothing reads once a result is known: of the names, in the order in which
+    /// they were declared first, the last that refers to one.
     pub fn holder(&self, kind: Kind) -> Option<Variable> {
         for place in (0..self.locals.len()).rev() {
             let name = name_at(self.tokens, self.locals[place].name);

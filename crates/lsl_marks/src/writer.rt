@@ -1,4 +1,4 @@
-//! The copy of a script: its text, and between its tokens statements that tell where it is, and what values its
+//! The copy of a script: its text, and between its tokens statements that report where it is, and what values its
 //! variables have.
 
 use crate::blocks::Open;
@@ -55,7 +55,7 @@ pub fn marked_copy(
     Ok(writer.text)
 }
 
-/// A name that no token is.
+/// A name that isn't a token.
 fn own_name(alloc: Global, tokens: &[Token]) -> Result<Vec<u8>, NoMemory> {
     let mut name = Vec::from_slice(alloc, b"r_")?;
     for _ in 0..tokens.len() {

@@ -1,4 +1,4 @@
--- Where of each trip came back what was sent, and all was sent that a run is to send, every crossing arrived.
+-- If each trip brought back what was sent, and all was sent that a run is to send, every crossing arrived.
 use Rattle.std.proofs.Common.{◌≡◌, ℕ, Bool, true, false, List, [], ◌∷◌, ◌++◌, length, drop, Option, refl, ap, sym, ◌∙◌, arith, length-append}
 use Rattle.std.specs.Prelude.{if◌then◌else◌}
 use Rattle.std.proofs.lemmas.List.Elements.{All-head, All-tail}
@@ -47,11 +47,11 @@ module _ (codes : List Code) (r : Rules) (step : Step) (steps : List Step) (w : 
   abbrev sends : List Trip → List (List ℕ)
   sends trips = images_of codes step w ++ images codes r steps (left step w trips) (behind trips)
 
-  -- what the others send, where the step is a crossing or isn't
+  -- what the others send, whether the step is a crossing or isn't
   abbrev others : List Trip → Bool → List (List ℕ)
   others trips crossing = images codes r steps (if crossing then drop 1 trips else trips) (behind trips)
 
-  -- a step that was done, where the regions behind it are these
+  -- a step that was done, with these regions after it
   then-kept : (trips left : List Trip) (regions : List (List ℕ)) → regions_of (behind trips) ≡ regions
       → AreCopied left → sent_of left ≡ images codes r steps left (behind trips)
       → step ∷ kept_steps regions steps left ≡ step ∷ steps

@@ -18,7 +18,7 @@ use Rattle.lsl_page.specs.Ended.{Ended, outside_of}
 use Rattle.lsl_page.specs.Faults.{IsMissing, faults_at, faults_in}
 use Rattle.lsl_page.proofs.Marks.{keeps-behind, keeps-mark, same-behind}
 
--- a name whose count rose has no file
+-- a name with a risen count has no file
 missing-at : (text : Option (List ℕ)) (missed : ℕ) → Rose (faults_at text 0) (faults_at text missed) → text ≡ None
 missing-at None missed rose = refl
 missing-at (Some text) missed rose =
@@ -30,7 +30,7 @@ pub missing : (files : Files) (words : Option Command) (missed : ℕ)
 missing files None missed rose = rose
 missing files (Some command) missed (name, is, rose) = (name, is, missing-at (files name) missed rose)
 
--- a sink that tells a mark in front
+-- a sink that reports a mark in front
 module _ (files : Files) (words : Option Command) (status : Status) (m n : ℕ) (output : List ℕ)
     (missed refused : ℕ) where
   abbrev before : Outside
@@ -40,7 +40,7 @@ module _ (files : Files) (words : Option Command) (status : Status) (m n : ℕ) 
   after = outside_of files missed (n ∷ output) refused
 
   module _ (e : Ends copies words before after status) where
-    -- the mark is as it was, where some world fits the words
+    -- the mark is unchanged, if some world fits the words
     pub mark-of : (from : World) → IsFromWords (Some files) words from → n ≡ m
     mark-of from fits =
         let (trips, went, silent, keeps) = e.kept in
@@ -48,7 +48,7 @@ module _ (files : Files) (words : Option Command) (status : Status) (m n : ℕ) 
         (kept-from (Some files) trips words status (Some (m ∷ [])) (Some (n ∷ output))
         (keeps (copies-fair words None None trips went)) from fits)
 
-    -- what stands behind it ends so too
+    -- what follows it ends this way too
     pub ends-behind : Ends copies words (outside_of files 0 [] 0) (outside_of files missed output refused) status
     ends-behind = record {
       usage = e.usage;
@@ -70,7 +70,7 @@ module _ (files : Files) (words : Option Command) (status : Status) (m n : ℕ) 
       links_counted = e.links_counted;
     }
 
--- a shelf and a sink that counted nothing before, where nothing was written into the room
+-- a shelf and a sink that counted nothing before, if nothing was written into the buffer
 module _ (files others : Files) (words : Option Command) (status : Status) (m n : ℕ) (start output : List ℕ)
     (reads missed writes refused : ℕ)
     (e : Ends copies words (outside_of files reads (m ∷ start) writes) (outside_of others missed (n ∷ output) refused)
@@ -113,7 +113,7 @@ missing-of files words room BadImage output ended e = absurd (omega (arith, e))
 missing-of files words room NoMemory output ended e = absurd (omega (arith, e))
 missing-of files words room BadNote output ended e = absurd (omega (arith, e))
 
--- at a failed write the room is full
+-- at a failed write the buffer is full
 pub full-of : (files : Files) (words : Option Command) (room : ℕ) (status : Status) (output : List ℕ)
     → Ended files words room status output → number_of status ≡ number_of WriteFault → length output ≡ room
 full-of files words room WriteFault output ended e = ended.full (ended.ends.write_fault refl (lit< tt))

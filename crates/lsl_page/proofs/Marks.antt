@@ -1,4 +1,4 @@
--- A sink that tells a mark in front of what it took: the mark stays, and what stands behind it grows as the whole does.
+-- A sink that reports a mark in front of what it took: the mark stays, and what follows it grows as the whole does.
 use Rattle.std.proofs.Common.{◌≡◌, ℕ, List, [], ◌∷◌, Option, Some, None, refl, ap, sym, subst, inl, inr}
 use Rattle.lsl_ports.specs.Shelf.{Files}
 use Rattle.lsl_ports.specs.Trips.{Trip}
@@ -48,7 +48,7 @@ module _ (m n : ℕ) (a b : List ℕ) where
       },
     )
 
-  -- what is kept to with the mark is kept to behind it
+  -- what is promised with the mark is promised after it
   keeps_to-behind : (IsAnswer : Grade → Answer → Type 0) (status : Status) (trips : List Trip)
       → KeepsTo IsAnswer status trips old new → KeepsTo IsAnswer status trips (Some a) (Some b)
   keeps_to-behind IsAnswer Ok trips (answer, is, e, w) = (answer, is, e, whole-behind answer.pieces trips w)
@@ -98,7 +98,7 @@ module _ (m n : ℕ) (a b : List ℕ) where
   keeps-behind held None status trips k = tt
   keeps-behind held (Some command) status trips k = of-behind held status trips command k
 
-  -- whatever the status, the mark is as it was
+  -- whatever the status, the mark is unchanged
   keeps_to-mark : (IsAnswer : Grade → Answer → Type 0) (status : Status) (trips : List Trip)
       → (WritesNothing status → new ≡ old) → KeepsTo IsAnswer status trips old new → n ≡ m
   keeps_to-mark IsAnswer Ok trips nothing (answer, is, e, w) = ap mark w.written

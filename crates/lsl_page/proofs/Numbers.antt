@@ -1,4 +1,4 @@
--- The number with which a request is answered, by what came of it.
+-- The number that answers a request, by its result.
 use Rattle.std.proofs.Common.{◌≡◌, ℕ, ◌<◌, ◌≤◌, refl, arith}
 use Rattle.std.specs.Prelude.{Result, Ok, Err, IfOk, IsErrOf, OnErr}
 use Rattle.lsl_top.specs.Status.{number_of}
@@ -13,7 +13,7 @@ pub record Numbered (answer : Result Status Refused) (n : ℕ) : Type 0 where
   pub form : IsErrOf answer NotInForm → n ≡ 9
   pub memory : IsErrOf answer NoMemory → n ≡ 10
 
--- below 9 it is a status's, of which holds what holds of each that an answer has
+-- below 9 it is a status's; what holds of each status of an answer holds of it
 pub status-of : (answer : Result Status Refused) (n : ℕ) (P Q : Status → Type 0) → Numbered answer n → IfOk answer P
     → IfOk answer Q → n < 9 → (status : Status) × (n ≡ number_of status) × P status × Q status
 status-of (Ok status) n P Q it p q below = (status, it.ok, p, q)

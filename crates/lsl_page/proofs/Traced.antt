@@ -1,4 +1,4 @@
--- How a trace ended, from what is said of it over a shelf and a sink that tells a mark in front.
+-- How a trace ended, from what is said of it over a shelf and a sink that reports a mark in front.
 use Rattle.std.proofs.Common.{◌≡◌, ℕ, List, [], ◌∷◌, Some, ap, inl, inr, subst}
 use Rattle.lsl_ports.specs.Growth.{Grew, GrewPartly}
 use Rattle.lsl_ports.specs.Shelf.{Files}
@@ -22,11 +22,11 @@ module _ (m n : ℕ) (a b : List ℕ) where
   grew-mark : (items : List ℕ) → Grew (Some (m ∷ a)) (Some (n ∷ b)) items → n ≡ m
   grew-mark items e = ap mark e
 
-  -- the mark is as it was
+  -- the mark is unchanged
   pub part-mark : (items : List ℕ) → GrewPartly (Some (m ∷ a)) (Some (n ∷ b)) items → n ≡ m
   part-mark items p = ap mark p.grew
 
--- a sink that tells a mark in front
+-- a sink that reports a mark in front
 module _ (files : Files) (asked : Asked) (m n : ℕ) (output : List ℕ) (refused : ℕ) where
   abbrev before : Outside
   before = outside_of files 0 (m ∷ []) 0
@@ -68,7 +68,7 @@ module _ (files : Files) (asked : Asked) (m n : ℕ) (output : List ℕ) (refuse
   mark-of (Refused status) (inr (inr (is, same))) = ap mark same
   mark-of TooLong same = ap mark same
 
--- a shelf and a sink that counted nothing before, where nothing was written into the room
+-- a shelf and a sink that counted nothing before, if nothing was written into the buffer
 module _ (files : Files) (asked : Asked) (ended : Traced) (m n : ℕ) (start output : List ℕ)
     (reads writes refused : ℕ)
     (e : EndsSo copies asked (outside_of files reads (m ∷ start) writes) (taken (Some (m ∷ start)) writes)

@@ -10,19 +10,19 @@ use Rattle.lsl_page.specs.Faults.{faults_in}
 use Rattle.lsl_page.specs.Request.{IsRequest, files_in}
 use Rattle.lsl_page.specs.declared.place.Place.{Place}
 
--- What is told of a request: its files, so many reads of a file that isn't one of them, what was written, and so many
--- writes into a room that was full. The link tells nothing.
+-- What is known of a request: its files, the number of reads of a file that isn't one of them, what was written, and
+-- the number of writes into a full buffer. The link reports nothing.
 abbrev pub outside_of : Files → ℕ → List ℕ → ℕ → Outside
 outside_of files missed output refused = outside (Some files) (faults_in files missed) (Some output) refused None 0
 
--- The command ended so over these files, with this output in a room for so many bytes: as the top call says over a link
--- that returns what it is sent, where nothing had been read and written before.
+-- How the command ended over these files, with this output in a buffer of this many bytes: as the top call says over a
+-- link that returns what it is sent, if nothing had been read and written before.
 pub record Ended (files : Files) (words : Option Command) (room : ℕ) (status : Status) (output : List ℕ) : Type 0
   where
     pub missed : ℕ
     pub refused : ℕ
     pub ends : Ends copies words (outside_of files 0 [] 0) (outside_of files missed output refused) status
-    -- a write failed only where the room was full
+    -- a write failed only if the buffer was full
     pub full : 0 < refused → length output ≡ room
 
 -- the request is in its form, and its command ended with the status of this number

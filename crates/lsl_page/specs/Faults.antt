@@ -8,11 +8,11 @@ abbrev pub faults_at : Option (List ℕ) → ℕ → ℕ
 faults_at None count = count
 faults_at (Some text) count = 0
 
--- the count of a name's faults, where so many were counted in all
+-- the count of a name's faults, if this many were counted in all
 abbrev pub faults_in : Files → ℕ → List ℕ → ℕ
 faults_in files count name = faults_at (files name) count
 
--- a file that the words name, or that the world which they name does, isn't there
+-- a file that the words or their world name isn't there
 abbrev pub IsMissing : Files → Option Command → Type 0
 IsMissing files None = ⊥
 IsMissing files (Some command) = (name : List ℕ) × IsNamed (Some files) command name × (files name ≡ None)

@@ -1,4 +1,4 @@
--- What is written where a world and its notecards are good and its scripts are accepted.
+-- What is written if a world and its notecards are good and its scripts are accepted.
 use Rattle.std.specs.Prelude.{◌≡◌, ◌⊎◌, ℕ, All, List, [], ◌∷◌, ◌++◌}
 use Rattle.std.specs.List.{AllZip}
 use Rattle.lsl_ports.specs.Growth.{Begins}
@@ -34,22 +34,22 @@ Runs files (View frozen name) file programs cards = ⊥
 Runs files (Make number) file programs cards = ⊥
 Runs files (State at name) file programs cards = ⊥
 
--- of each of these trips what was sent came back
+-- each of these trips brought back what was sent
 abbrev pub AreCopied : List Trip → Type 0
 AreCopied trips = All (λ (t : Trip). copies t.sent t.back) trips
 
--- the journal of a file whose scripts are these programs, where all steps are done: no crossing is refused
+-- the journal of a file with scripts of these programs, if all steps are done: no crossing is refused
 abbrev pub whole_journal : List Program → WorldFile → List Notecard → List Entry
 whole_journal programs file cards =
     let all = reference (rules_of programs) file.steps (start (rules_of programs) file cards) in
     all.entries ++ homes all.value
 
--- the first lines of its journal, by trips of which each brought back what was sent
+-- a prefix of its journal, by trips of which each brought back what was sent
 abbrev pub IsFirst : WorldFile → List Program → List Notecard → List ℕ → Type 0
 IsFirst file programs cards output =
     (trips : List Trip) × AreCopied trips × Begins output (lines_of (journal_of programs file cards trips))
 
--- the whole journal was written, or its first lines, where the room was full or memory lacked
+-- the whole journal was written, or a prefix of it, if the buffer was full or memory ran out
 abbrev pub WritesJournal : WorldFile → List Program → List Notecard → ℕ → List ℕ → Type 0
 WritesJournal file programs cards number output =
     ((number ≡ number_of Ok) × (output ≡ lines_of (whole_journal programs file cards)))

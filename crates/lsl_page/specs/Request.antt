@@ -1,4 +1,4 @@
--- The files of a request, by the places at which they stand among its bytes.
+-- The files of a request, by their places among its bytes.
 use Rattle.std.specs.Prelude.{ℕ, ◌&&◌, Bool, nat_le, List, length, slice_range, option_map, IsTrue, All}
 use Rattle.std.specs.List.{find}
 use Rattle.std.specs.Str.{IsUtf8, bytes_eq}

@@ -1,4 +1,4 @@
--- How what a debugger asks for ended, seen from its page.
+-- The results of a debugger's calls, seen from its page.
 use Rattle.std.specs.Prelude.{◌≡◌, ◌<◌, ◌==◌, ℕ, List, [], length, Option, Some, None, nat_le, if◌then◌else◌}
 use Rattle.lsl_ports.specs.Shelf.{Files}
 use Rattle.lsl_top.specs.Laws.{copies}
@@ -19,8 +19,8 @@ use Rattle.lsl_page.specs.declared.place.Place.{Place}
 abbrev pub saturated : ℕ → ℕ
 saturated n = if nat_le n 4294967295 then n else 4294967295
 
--- Within a step, after so many segments of it; step 0 is the end of the file. No world file has a step or a segment
--- that 32 bits don't count.
+-- Within a step, after this many segments of it; step 0 is the end of the file. 32 bits count all steps and segments of
+-- any world file.
 abbrev pub position_of : ℕ → ℕ → Option Position
 position_of step segment =
     if step == 0 then None else Some (record { step = saturated step; segment = saturated segment })
@@ -33,18 +33,18 @@ StateAs file at bytes places number room output =
     × ((status : Status) × (number ≡ number_of status)
     × Ended (files_in bytes places) (Some (State at file)) room status output)
 
--- the number with which a trace is answered: a journal that is too long counts as an output that doesn't fit
+-- the number that answers a trace: a journal that is too long counts as an output that doesn't fit
 abbrev pub number_of_trace : Traced → ℕ
 number_of_trace Told = number_of Ok
 number_of_trace (Refused status) = number_of status
 number_of_trace TooLong = number_of WriteFault
 
--- The trace ended so over these files, with this output in a room for so many bytes: as `lsl_trace` says over a link
--- that returns what it is sent, where nothing had been written before.
+-- How the trace ended over these files, with this output in a buffer of this many bytes: as `lsl_trace` says over a
+-- link that returns what it is sent, if nothing had been written before.
 pub record TraceEnds (files : Files) (asked : Asked) (room : ℕ) (ended : Traced) (output : List ℕ) : Type 0 where
   pub refused : ℕ
   pub ends : EndsSo copies asked (outside_of files 0 [] 0) (taken (Some []) 0) (taken (Some output) refused) ended
-  -- a write failed only where the room was full
+  -- a write failed only if the buffer was full
   pub full : 0 < refused → length output ≡ room
 
 -- a trace of this file from the first step to the last ended with this number

@@ -1,4 +1,5 @@
-//! The top call for a page in a browser: a request comes as bytes, and what is written goes into a room that is lent.
+//! The top call for a page in a browser: a request comes as bytes, and what is written goes into a buffer that the page
+//! lends.
 #![tactic(auto)]
 
 ghost use Rattle.std.specs.Prelude.{◌≡◌, ◌<◌, ◌≤◌, ◌∷◌, [], IfOk, IsErrOf, List, None, Some, length, take};
@@ -32,17 +33,20 @@ use lsl_top::Status;
 pub use place::Place;
 use std::alloc::Global;
 
-/// What is answered to a request that isn't in its form.
+/// The answer to a request that isn't in its form.
 const NOT_IN_FORM: u8 = 9;
 
-/// What is answered where there is no memory for the words of a request.
+/// The answer when there is no memory for the words of a request.
 const NO_MEMORY: u8 = 10;
 
-/// Runs a command over the files of a request: `word` is `once`, `check`, `replay` or `freeze`, and `file` the name of
-/// its file; or `word` is `make`, and `file` the number of the world that is made. The files stand at `places` among
-/// `bytes`; of two of one name the first counts. What is written stands at the front of `page`, and `written` is how
-/// many bytes that are. The answer is the number of the command's status, or 9 where the request isn't in its form, or
-/// 10 where there is no memory for its words.
+/// Runs a command over the files of a request.
+///
+/// `word` is `once`, `check`, `replay` or `freeze`, and `file` the name of its file; or `word` is `make`, and `file`
+/// the seed of the generated world. The files are at `places` among `bytes`; of two of one name the first counts. What
+/// is written is at the front of `page`, and `written` is the number of its bytes.
+///
+/// The answer is the number of the command's status, or 9 if the request isn't in its form, or 10 if there is no memory
+/// for its words.
 ///
 /// It takes memory for the two words, and for what the command needs; the files aren't copied, nor is the output.
 #[unsafe(no_mangle)]
@@ -59,29 +63,30 @@ pub extern "C" fn lsl_page_run(
     ensures ended { result < 9 → EndedAs word.now file.now bytes.now places.now result (length page.new)
         (take written.new page.new) }
     // Given a good world with its notecards, or `once`, and accepted scripts, the number is 0 and the output exactly
-    // the journal of the scripts' meaning over all steps; or the room was full or memory lacked, and the output is the
-    // first of it.
+    // the journal of the scripts' meaning over all steps; or the buffer was full or memory ran out, and the output is a
+    // prefix of it.
     ensures headline { (command : Command) (world : WorldFile) (programs : List Program) (cards : List Notecard)
         → result < 9 → command_in (word.now ∷ file.now ∷ []) ≡ Some command
         → Runs (files_in bytes.now places.now) command world programs cards
         → WritesJournal world programs cards result (take written.new page.new) }
-    // At the number of a failed read a file that is named isn't in the request; at that of a failed write the room is
+    // At the number of a failed read a file that is named isn't in the request; at that of a failed write the buffer is
     // full.
     ensures missing { result ≡ number_of ReadFault
         → IsMissing (files_in bytes.now places.now) (command_in (word.now ∷ file.now ∷ [])) }
     ensures full { result ≡ number_of WriteFault → written.new ≡ length page.new }
-    // 9 comes only where it isn't in its form, and at 9 and 10 nothing was written.
+    // 9 comes only if the request isn't in its form, and at 9 and 10 nothing was written.
     ensures form { result ≡ 9 → ¬ IsRequest word.now file.now bytes.now places.now }
     ensures nothing { 9 ≤ result → written.new ≡ 0 }
     ensures number { result ≤ 10 }
-    // What was written is at most the room.
+    // What was written is at most the buffer.
     ensures within { written.new ≤ length page.new }
 {
     number_of_answer(answer(alloc, word, file, bytes, places, page, written))
 }
 
-/// Writes the trace of a world file, from the step `first` to the step `last` of it (docs/DEBUGGING.md). Steps are
-/// counted from 1. The files and the output are as those of [`lsl_page_run`], and so is the answer; a journal that is
+/// Writes the trace of a world file, from the step `first` to the step `last` of it (docs/DEBUGGING.md).
+///
+/// Steps are counted from 1. The files, the output and the answer are as those of [`lsl_page_run`]; a journal that is
 /// too long to be traced counts as an output that doesn't fit.
 #[unsafe(no_mangle)]
 pub extern "C" fn lsl_page_trace(
@@ -109,10 +114,11 @@ pub extern "C" fn lsl_page_trace(
     number_of_answer(answered)
 }
 
-/// Writes the lines of the moment to which a move leads from the moment `moment` of a trace, or `nowhere`. `words` has
-/// the move's words, each a line; without a word the moment itself is shown. The files and the output are as those of
-/// [`lsl_page_run`]; the answer is the number of a status: of `Usage` where the words are no move, and of `BadWorld`
-/// where the file isn't a trace.
+/// Writes the lines of the moment to which a move leads from the moment `moment` of a trace, or `nowhere`.
+///
+/// `words` has the move's words, each a line; without a word the moment itself is shown. The files and the output are
+/// as those of [`lsl_page_run`]. The answer is the number of a status: of `Usage` if the words aren't a move, and of
+/// `BadWorld` if the file isn't a trace.
 #[unsafe(no_mangle)]
 pub extern "C" fn lsl_page_seek(
     alloc: Global,
@@ -124,7 +130,7 @@ pub extern "C" fn lsl_page_seek(
     page: &mut [u8],
     written: &mut usize,
 ) -> u8
-    // At the number of a failed read the file isn't in the request; at that of a failed write the room is full.
+    // At the number of a failed read the file isn't in the request; at that of a failed write the buffer is full.
     ensures missing { result ≡ number_of ReadFault → files_in bytes.now places.now file.now ≡ None }
     ensures full { result ≡ number_of WriteFault → written.new ≡ length page.new }
     ensures form { result ≡ 9 → ¬ (IsAsked file.now bytes.now places.now × IsUtf8 words.now) }
@@ -139,9 +145,10 @@ pub extern "C" fn lsl_page_seek(
     number_of_answer(answered)
 }
 
-/// Writes the journal of a world file up to a position, and then what the world holds there (docs/DEBUGGING.md): after
-/// `segment` segments of the step `step`, counted from 1, or after all steps where `step` is 0. The files, the output
-/// and the answer are as those of [`lsl_page_run`].
+/// Writes the journal of a world file up to a position, and then what the world holds there (docs/DEBUGGING.md).
+///
+/// The position is after `segment` segments of the step `step`, counted from 1, or after all steps if `step` is 0. The
+/// files, the output and the answer are as those of [`lsl_page_run`].
 #[unsafe(no_mangle)]
 pub extern "C" fn lsl_page_state(
     alloc: Global,
@@ -156,7 +163,7 @@ pub extern "C" fn lsl_page_state(
     // Below 9 the request is in its form, and the state ended with the status of that number.
     ensures ended { result < 9 → StateAs file.now (position_of step segment) bytes.now places.now result
         (length page.new) (take written.new page.new) }
-    // At the number of a failed read a file that is named isn't in the request; at that of a failed write the room is
+    // At the number of a failed read a file that is named isn't in the request; at that of a failed write the buffer is
     // full.
     ensures missing { result ≡ number_of ReadFault
         → IsMissing (files_in bytes.now places.now) (Some (State (position_of step segment) file.now)) }
@@ -174,7 +181,7 @@ pub extern "C" fn lsl_page_state(
     number_of_answer(answered)
 }
 
-/// The number with which a request is answered.
+/// The number that answers a request.
 fn number_of_answer(answered: Result<Status, Refused>) -> u8
     ensures ok { IfOk answered (λ status. result ≡ number_of status) }
     ensures form { IsErrOf answered Refused.NotInForm → result ≡ 9 }

@@ -1,9 +1,9 @@
-//! Where the files of a request stand among its bytes.
+//! Where the files of a request are among its bytes.
 ghost use Rattle.std.specs.Prelude.{◌≡◌, ◌↔◌, ◌&&◌, IsTrue, nat_le, length};
 ghost use Rattle.std.specs.Str.{bytes_eq};
 ghost use Rattle.lsl_page.specs.Request.{is_in, is_named, text_in};
 
-/// Where a file stands among the bytes of a request: its name, and its text behind that.
+/// The place of a file among the bytes of a request: its name, and then its text.
 #[repr(C)]
 #[derive(Clone, Copy, Debug)]
 pub struct Place {

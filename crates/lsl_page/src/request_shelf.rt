@@ -9,8 +9,9 @@ use crate::place::Place;
 use crate::words::Refused;
 use lsl_ports::{Failed, Shelf};
 
-/// The files of a request, which are read where they stand among its bytes. Of two files of one name the first counts.
-/// A name without a file is a fault, and nothing else is.
+/// The files of a request, which are read in place among its bytes.
+///
+/// Of two files of one name the first counts. A name without a file is a fault, and nothing else is.
 #[derive(Clone, Copy, Drop)]
 pub struct RequestShelf<'a> {
     bytes: &'a [u8],
@@ -31,7 +32,7 @@ impl<'a> RequestShelf<'a> {
         }
     }
 
-    /// Whether all places lie within the bytes: else the request isn't in its form.
+    /// Whether all places lie within the bytes: otherwise the request isn't in its form.
     pub fn check(&self) -> Result<(), Refused>
         ensures ok { IfOk result (λ _. All (λ p. IsTrue (is_in self.now.bytes.now p)) self.now.places.now) }
         ensures err { OnErr result (¬ All (λ p. IsTrue (is_in self.now.bytes.now p)) self.now.places.now) }
@@ -45,7 +46,7 @@ impl<'a> RequestShelf<'a> {
         }
     }
 
-    /// The text of a file, or none where no file has the name. It takes no memory.
+    /// The text of a file, or none if no file has the name. It takes no memory.
     pub fn text_of(&self, name: &str) -> Option<&'a [u8]>
         ensures { option_map (λ text. text.now) result ≡ files_in self.now.bytes.now self.now.places.now name.now }
     {
@@ -58,7 +59,7 @@ impl<'a> RequestShelf<'a> {
     }
 }
 
-/// Copies bytes from `place` on into the piece, and answers how many.
+/// Copies bytes from `place` on into the piece, and returns how many.
 fn copy_from(text: &[u8], place: u64, piece: &mut [u8]) -> usize
     ensures within { result ≤ length piece.new }
     ensures copied { Copies text.now place piece.new result }

@@ -1,12 +1,12 @@
-//! The link between the regions of a page's world, which all stand in one place.
+//! The link between the regions of a page's world, which are all in one place.
 ghost use Rattle.std.specs.Prelude.{◌≡◌, None, Some};
 ghost use Rattle.lsl_top.specs.Laws.{copies};
 
 use lsl_ports::{Link, LinkFault};
 use std::alloc::Global;
 
-/// A link that returns what it is sent, or lacks memory. It tells no trips; that it returns nothing else is known of
-/// its type.
+/// A link that returns what it is sent, or reports that it is out of memory. It reports no trips; that it returns
+/// nothing else is known of its type.
 #[derive(Clone, Copy, Drop)]
 pub struct ReturningLink;
 

@@ -1,10 +1,10 @@
-//! A sink that writes into a room that it was lent.
+//! A sink that writes into a borrowed buffer.
 ghost use Rattle.std.specs.Prelude.{◌≡◌, ◌<◌, ◌≤◌, length};
 ghost use Rattle.lsl_page.specs.Room.{told_in};
 
 use lsl_ports::{Failed, Sink};
 
-/// A sink that writes straight into a room that it was lent. It fails where the room is full, and never else.
+/// A sink that writes straight into a borrowed buffer. It fails only if the buffer is full.
 #[derive(Drop)]
 pub struct RoomSink<'a> {
     room: &'a mut [u8],

@@ -1,4 +1,4 @@
-//! A command over the files of a request, with its output in a room.
+//! A command over the files of a request, with its output in a buffer.
 ghost use Rattle.std.specs.Prelude.{◌≡◌, ◌≤◌, ◌↔◌, ◌∷◌, [], All, IfOk, IsErrOf, IsTrue, OnErr, length, take};
 ghost use Rattle.lsl_top.specs.Ends.{Ends, outside};
 ghost use Rattle.lsl_top.specs.Words.{command_in, command_of};
@@ -14,7 +14,7 @@ use lsl_ports::{Link, Shelf, Sink};
 use lsl_top::{Status, lsl};
 use std::alloc::Global;
 
-/// Does what the words ask for: every clause of the top call, as one fact.
+/// Runs the command that the words ask for: every clause of the top call, as one fact.
 fn end<S: Shelf, K: Sink, L: Link>(
     alloc: Global,
     words: &[String],
@@ -31,7 +31,7 @@ fn end<S: Shelf, K: Sink, L: Link>(
     lsl(alloc, words, shelf, sink, link)
 }
 
-/// Does what two words ask for over this shelf and this sink, into which nothing was written yet.
+/// Runs the command that two words ask for over this shelf and this sink, into which nothing was written yet.
 fn run_over(
     alloc: Global,
     words: &[String],
@@ -49,7 +49,7 @@ fn run_over(
     end(alloc, words, shelf, sink, &mut ReturningLink)
 }
 
-/// Does what two words ask for over the files of a request. What is written stands at the front of the room.
+/// Runs the command that two words ask for over the files of a request. What is written is at the front of the buffer.
 fn run(
     alloc: Global,
     words: &[String],
@@ -77,7 +77,7 @@ fn are_in(places: &[Place], bytes: &[u8]) -> bool
     places.iter().all(|place| place.is_in(bytes))
 }
 
-/// Runs a request, if it is one. It takes memory for its two words, and for what the command needs.
+/// Runs a request, if it is one. Takes memory for its two words, and for what the command needs.
 pub fn answer(
     alloc: Global,
     word: &[u8],

@@ -21,8 +21,8 @@ use lsl_top::{Position, Status, state};
 use lsl_trace::{Ended, Request, trace};
 use std::alloc::Global;
 
-/// The position in a world file, or none for the end of its steps, which is step 0. No world file has so many steps or
-/// segments that 32 bits are too few.
+/// The position in a world file, or none for the end of its steps, which is step 0. 32 bits count all steps and
+/// segments of any world file.
 pub fn position(step: usize, segment: usize) -> Option<Position>
     ensures { result ≡ position_of step segment }
 {
@@ -97,7 +97,7 @@ pub fn write_trace(
     Ok(status_of(trace_over(alloc, &request, shelf, sink)))
 }
 
-/// Writes these lines, or as many of them as the room takes.
+/// Writes these lines, or as many of them as fit in the buffer.
 fn write_lines(lines: &[u8], sink: &mut RoomSink<'_>) -> Status
     requires calm { sink.old.faults ≡ 0 }
     ensures same_room { sink.new.room.ghost_name ≡ sink.old.room.ghost_name }

@@ -8,7 +8,7 @@ use std::alloc::{AllocError, Global};
 use std::io;
 use std::rt::Files;
 
-/// What is made to fail where a case says nothing of it: no read, no write, and the sink has room.
+/// The faults of a case that names none: no read or write fails, and the sink has room.
 const CALM: &str = "0 0 1000000";
 
 /// Plays a command over a shelf, a sink and a link in memory.
@@ -27,8 +27,7 @@ impl<R: Files + AllocGlobal> Player<R> for Memory {
     }
 }
 
-/// The words of a command, with blanks between. `""` is the empty word, and `\s` stands for a blank in a
-/// word.
+/// The words of a command, with blanks between. `""` is the empty word, and `\s` is a blank in a word.
 fn words_of(alloc: Global, text: &str) -> Result<Vec<String>, AllocError> {
     let mut words = Vec::new(alloc);
     for word in text.split(' ') {
@@ -88,7 +87,7 @@ fn played(
     })
 }
 
-/// The greatest count of bytes that one write takes: that behind `most:`, or any.
+/// The greatest count of bytes that one write takes: the one after `most:`, or any.
 fn most_of(troubles: &str) -> usize
     ensures { 0 < result }
 {
@@ -98,7 +97,7 @@ fn most_of(troubles: &str) -> usize
     }
 }
 
-/// The link of a case: behind `link` stand the numbers of the calls that fail, damages as `CALL.PLACE.BYTE`, and
+/// The link of a case: after `link` come the numbers of the calls that fail, damages as `CALL.PLACE.BYTE`, and
 /// replacements as `CALL=HEX`.
 fn link_of(alloc: Global, troubles: &str) -> Result<MemoryLink, AllocError> {
     let mut failing = Vec::new(alloc);
@@ -126,7 +125,7 @@ fn damage_of(call: &str, place: &str) -> Damage {
     Damage::new(number(Some(call)), number(Some(place)) as usize, byte)
 }
 
-/// Tells how many bytes were sent, and whether the same came back (`=`), others (`/`) or nothing (`-`).
+/// Writes the number of bytes sent, and whether the same came back (`=`), others (`/`) or nothing (`-`).
 fn tell_trip(trip: &StoredTrip, told: &mut String) -> Result<(), AllocError> {
     let sign = match trip.back() {
         Some(back) if back == trip.sent() => '=',
@@ -144,7 +143,7 @@ fn named_faults(words: &[String], shelf: &MemoryShelf) -> u64 {
     }
 }
 
-/// The number that a word is. A word that is none is 0, and its case fails by what it says.
+/// The number that a word means. A word that isn't a number is 0, and its case fails by what it says.
 fn number(word: Option<&str>) -> u64 {
     word.unwrap_or("0").parse::<u64>().unwrap_or(0)
 }

@@ -1,4 +1,4 @@
-//! The world of a number, replayed from its two texts as files. What is told of it is what `make` is to write.
+//! The world of a seed, replayed from its two texts as files. The result is what `make` must write.
 
 use hex::encode;
 use lsl_made::made;
@@ -7,10 +7,10 @@ use lsl_top::lsl;
 use sha2::{Digest, Sha256};
 use std::alloc::{AllocError, Global};
 
-/// How many bytes the report of a number's world may have here.
+/// How many bytes the report of a seed's world may have here.
 const ROOM: usize = 1_000_000;
 
-/// How the replay of a number's world ends, how many lines its report has, and the report's digest.
+/// How the replay of a seed's world ends, how many lines its report has, and the report's digest.
 pub fn replayed(alloc: Global, number: u32) -> Result<String, AllocError> {
     let made = made(alloc, number)?;
     let mut files = Vec::new(alloc);

@@ -1,5 +1,5 @@
-//! Plays the files of cases that are named to it over a shelf and a sink in memory, and tells which cases end
-//! in another way than they are to, and how many hold; and then replays the world of the number 1 from its texts.
+//! Plays the files of cases that its arguments name over a shelf and a sink in memory. It prints which cases end in
+//! another way than they must, and how many hold; and then it replays the world of seed 1 from its texts.
 #![tactic(auto)]
 
 mod ending;

@@ -1,4 +1,4 @@
--- What is said on standard error where a command doesn't end well: one line, in words.
+-- What is printed on standard error when a command doesn't end well: one line, in words.
 use Rattle.std.specs.Prelude.{◌≡◌, ℕ, codes, List, [], ◌++◌, Option, Some, None}
 use Rattle.lsl_text.specs.Quoted.{quoted}
 use Rattle.lsl_ports.specs.Growth.{Grew}
@@ -27,13 +27,13 @@ abbrev pub named_notice : Option (List ℕ) → List ℕ → List ℕ
 named_notice None meaning = meaning
 named_notice (Some file) meaning = quoted file ++ (codes ": " ++ meaning)
 
--- how the program is called stands alone
+-- the usage has no file's name
 abbrev pub notice_of : (usage : List ℕ) → Status → Option (List ℕ) → List ℕ
 notice_of usage Usage named = usage
 notice_of usage status named = named_notice named (meaning_of usage status)
 
 -- the notes grew by the line of this status, a usage without the file's name and any other with it; a command that
--- ended well isn't spoken of
+-- ended well has no line
 abbrev pub IsTold : (usage : List ℕ) → Status → Option (List ℕ) → Option (List ℕ) → Option (List ℕ) → Type 0
 IsTold usage Ok named old new = new ≡ old
 IsTold usage status named old new = Grew old new (notice_of usage status named)

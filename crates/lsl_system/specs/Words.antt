@@ -7,7 +7,7 @@ use Rattle.lsl_top.specs.Status.{number_of}
 use Rattle.lsl_top.specs.declared.status.Status.TheVariants.{NoMemory}
 use Rattle.lsl_system.specs.Notice.{meaning_of, no_words}
 
--- for want of memory as a command does that lacks it, and else with a number that no status has
+-- when out of memory as a command does that is, and otherwise with a number that no status has
 pub record IsRefusal (kind : ErrorKind) (number : ℕ) : Type 0 where
   pub memory : kind ≡ OutOfMemory → number ≡ number_of NoMemory
   pub unread : kind ≢ OutOfMemory → number ≡ 9

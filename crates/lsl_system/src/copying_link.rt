@@ -8,8 +8,9 @@ ghost use Rattle.lsl_top.specs.Laws.{copies};
 use lsl_ports::{Link, LinkFault};
 use std::alloc::Global;
 
-/// A link that gives back the bytes that were sent, or answers want of memory. It keeps and tells
-/// nothing; that it gives no other bytes is known of its type.
+/// A link that gives back the bytes that were sent, or reports that it is out of memory.
+///
+/// It keeps and reports no trips; that it gives no other bytes is known of its type.
 #[derive(Clone, Copy)]
 pub struct CopyingLink;
 

@@ -5,7 +5,7 @@ ghost use Rattle.lsl_ports.specs.Counts.{Rose};
 use lsl_ports::Failed;
 use std::io;
 
-/// How many bytes were read or written. An error raises the count, and is a failure.
+/// The number of bytes read or written. An error raises the count, and is a failure.
 pub fn counted(answer: io::Result<usize>, faults: &mut u64) -> Result<usize, Failed>
     ensures answered { IfOk answer (λ count. OnErr result ⊥ × IfOk result (λ same. same ≡ count)) }
     ensures uncounted { OnOk answer (faults.new ≡ faults.old) }

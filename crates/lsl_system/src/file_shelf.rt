@@ -8,8 +8,10 @@ use std::io::{ErrorKind, Read, Seek, SeekFrom};
 use std::rt::Files;
 use std::{fs, io};
 
-/// The regular files of the system, by their paths: a device or a pipe may have no end, so it is a fault. It keeps and
-/// tells no contents, and its one count of faults stands for every name.
+/// The regular files of the system, by their paths.
+///
+/// A device or a pipe may have no end, so it is a fault. The shelf keeps and reports no contents, and its one count of
+/// faults is for every name.
 #[derive(Drop)]
 pub struct FileShelf<'a, R: Files> {
     files: &'a R,

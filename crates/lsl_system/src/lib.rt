@@ -1,5 +1,5 @@
 //! What the programs share: the files of the system, its outputs, a link within one process, the words of a command
-//! line, and what is said where a command doesn't end well.
+//! line, and what is printed when a command doesn't end well.
 #![tactic(auto)]
 
 mod copying_link;

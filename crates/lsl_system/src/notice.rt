@@ -1,4 +1,4 @@
-//! What is said on standard error where a command doesn't end well. It takes no memory.
+//! What is printed on standard error when a command doesn't end well. Takes no memory.
 
 ghost use Rattle.std.specs.Prelude.{◌≡◌, ◌≤◌, ◌⊎◌, [], Some, OnErr, OnOk, option_map, if◌then◌else◌};
 ghost use Rattle.std.specs.List.{flat_map};
@@ -66,8 +66,8 @@ fn write_quoted<N: Sink>(text: &[u8], notes: &mut N) -> Result<(), Failed>
     write_all(notes, b"\"")
 }
 
-/// Writes the line of a status, with the file's name in front. The name is written byte by byte: it is short, and a
-/// line that is made first would take memory.
+/// Writes the line of a status, with the file's name in front. The name is written byte by byte: it is short, and
+/// building the line first would take memory.
 fn write_named<N: Sink>(
     usage: &str,
     status: Status,
@@ -102,7 +102,7 @@ fn write_notice<N: Sink>(
     }
 }
 
-/// Says how a command of a program with this usage ended, in one line, where it didn't end well.
+/// Prints how a command of a program with this usage ended, in one line, if it didn't end well.
 pub fn say<N: Sink>(usage: &str, status: Status, file: Option<&str>, notes: &mut N)
     ensures told { Rose (N.faults notes.old) (N.faults notes.new)
         ⊎ IsTold usage.now status (option_map (λ name. name.now) file.entry) (N.sunk notes.old) (N.sunk notes.new) }
@@ -113,7 +113,7 @@ pub fn say<N: Sink>(usage: &str, status: Status, file: Option<&str>, notes: &mut
     let _ = write_notice(usage, status, file, notes);
 }
 
-/// Says why there are no words of a command: for want of memory, or since one is no text.
+/// Prints why there are no words of a command: out of memory, or one isn't text.
 pub fn say_no_words<N: Sink>(lacks_memory: bool, notes: &mut N)
     ensures { Rose (N.faults notes.old) (N.faults notes.new)
         ⊎ Grew (N.sunk notes.old) (N.sunk notes.new) (if lacks_memory then meaning_of [] NoMemory else no_words) }

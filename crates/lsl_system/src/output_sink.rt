@@ -7,11 +7,12 @@ use std::io::{ErrorKind, Write};
 use std::time::{Clock, Duration};
 use std::{io, thread};
 
-/// How many milliseconds pass before a writer that had no room is tried again.
+/// The pause in milliseconds before a writer that had no room is tried again.
 const PAUSE: u64 = 2;
 
-/// A writer as a sink. It keeps and tells nothing of what it took, and counts its faults. That a writer has no room
-/// yet, or that a signal broke in, is none: the sink waits, as long as it takes.
+/// A writer as a sink. It keeps and reports nothing of what it took, and counts its faults.
+///
+/// A writer that has no room yet, or a signal that breaks in, isn't a fault: the sink waits, as long as it takes.
 #[derive(Drop)]
 pub struct OutputSink<'a, W, C> {
     out: W,
@@ -44,7 +45,7 @@ impl<W: Write, C: Clock> Sink for OutputSink<'_, W, C> {
     }
 }
 
-/// Writes a first part of the piece, and of one that isn't empty at least a byte.
+/// Writes a prefix of the piece, and at least one byte of a piece that isn't empty.
 fn write_some<C: Clock, W: Write>(clock: &C, out: &mut W, piece: &[u8]) -> io::Result<usize>
     ensures within { IfOk result (λ count. count ≤ length piece.now) }
     ensures some { IfOk result (λ count. 0 < length piece.now → 0 < count) }
@@ -77,7 +78,7 @@ mod tests {
     use super::*;
     use std::test::Fail;
 
-    /// A writer that has no room at first, and into whose next call a signal breaks.
+    /// A writer that has no room at first, and then is interrupted by a signal.
     #[derive(Drop)]
     struct Slow {
         calls: u32,

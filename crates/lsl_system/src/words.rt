@@ -1,4 +1,4 @@
-//! The words of a command line, or that the system gives none.
+//! The words of a command line, or the fact that the system gives none.
 
 ghost use Rattle.std.specs.Prelude.{◌≡◌, ◌≢◌, ◌⊎◌, false, true, drop};
 ghost use Rattle.std.specs.IoError.{error_kind};
@@ -14,7 +14,7 @@ use std::process::ExitCode;
 use std::rt::Env;
 use std::{env, io};
 
-/// How the process ends where the system doesn't give the words. No status has this number.
+/// The exit status when the system doesn't give the words. No command's status has this number.
 const NO_WORDS: u8 = 9;
 
 /// All words of the command line, the program's name first.
@@ -22,7 +22,7 @@ pub fn command_line<R: Env + AllocGlobal>(rt: &R) -> io::Result<Vec<String>> {
     Ok(env::args(rt)?.collect::<Vec<String>>(rt.alloc())?)
 }
 
-/// The words of a command line behind the program's name.
+/// The words of a command line after the program's name.
 pub fn behind_name(line: &[String]) -> &[String]
     ensures { result.now ≡ drop 1 line.now }
 {
@@ -32,7 +32,7 @@ pub fn behind_name(line: &[String]) -> &[String]
     }
 }
 
-/// Says that the words of the command weren't given, for want of memory or since one is no text.
+/// Prints that the words of the command weren't given, because memory ran out or one isn't text.
 pub fn refuse_words<N: Sink>(error: &io::Error, notes: &mut N) -> ExitCode
     ensures refused { IsRefusal (error_kind error.now) (exit_status result) }
     ensures told { Rose (N.faults notes.old) (N.faults notes.new)
@@ -47,7 +47,7 @@ pub fn refuse_words<N: Sink>(error: &io::Error, notes: &mut N) -> ExitCode
     })
 }
 
-/// Whether it was memory that lacked for the words.
+/// Whether memory ran out for the words.
 fn lacks_memory(error: &io::Error) -> bool
     ensures yes { result ≡ true → error_kind error.now ≡ ErrorKind.OutOfMemory }
     ensures no { result ≡ false → error_kind error.now ≢ ErrorKind.OutOfMemory }

@@ -1,4 +1,4 @@
--- A run from a world, from its steps to what is told at its end.
+-- A run from a world, from its steps to what is printed at its end.
 use Rattle.std.proofs.Common.{◌≡◌, ℕ, ◌+◌, ◌≤◌, List, [], ◌∷◌, ◌++◌, length, Option, Result, Ok as OkResult, Err, refl, subst, arith, append-nil}
 use Rattle.std.specs.Prelude.{IsErrOf, MatchResult, OnOk}
 use Rattle.lsl_code.specs.declared.woven_units.Woven.{Woven as Code}
@@ -57,7 +57,7 @@ module _ (gives : List ℕ → Option (List ℕ) → Type 0) (codes : List Code)
     cause = goes.cause;
   }
 
-  -- the steps were done, and then it was to be written what is told at the end
+  -- the steps were done, and then what is printed at the end was to be written
   pub performs-done : {T U : Type 0} (u : U) (a b c : Log) (p q : Wire) (result : Result T Trouble)
       → Goes gives codes regions IsThen IsNow steps a b p q (OkResult u)
       → ((programs : List Program) (stage : Stage) → IsNow programs stage

@@ -22,7 +22,7 @@ sent_in-append (x ∷ xs) ys =
 pub sent_of-append : (ts us : List Trip) → sent_of (ts ++ us) ≡ sent_of ts ++ sent_of us
 sent_of-append ts us = map-append (λ (t : Trip). t.sent) ts us
 
--- the first pieces are the beginning of all
+-- the first pieces are a prefix of all
 take-begins : (n : ℕ) (xs : List Piece) → Begins (lines_in (take n xs)) (lines_in xs)
 take-begins zero xs = begins-none (lines_in xs)
 take-begins (suc n) [] = begins-none []
@@ -33,7 +33,7 @@ pub begins-through : {A : Type 0} (xs ys zs : List A) → Begins xs ys → Begin
 begins-through xs ys zs b c =
     begins-is xs (ys ++ c.others) zs (begins-more xs ys c.others b) c.whole
 
--- what was begun grew by first bytes of the whole
+-- what was begun grew by a prefix of the whole
 pub begun-partly : (xs : List Piece) (ts : List Trip) (a b : Option (List ℕ)) → IsBegun xs ts a b
     → GrewPartly a b (lines_in xs)
 begun-partly xs ts a b (done, s) = record {
@@ -42,7 +42,7 @@ begun-partly xs ts a b (done, s) = record {
   begins = begins-through s.added (lines_in (take (suc done) xs)) (lines_in xs) s.part (take-begins (suc done) xs);
 }
 
--- the first pieces send first ones of what all send
+-- the first pieces send a prefix of what all send
 pub sent-begins : (n : ℕ) (xs : List Piece) → Begins (sent_in (take n xs)) (sent_in xs)
 sent-begins zero xs = begins-none (sent_in xs)
 sent-begins (suc n) [] = begins-none []
@@ -66,7 +66,7 @@ begun-none xs a some = record {
   sent = begins-none (sent_in (take 1 xs));
 }
 
--- one piece, whose lines are these
+-- one piece, with these lines
 module _ (p : Piece) (lines : List ℕ) (ts : List Trip) (a b : Option (List ℕ)) (is : lines ≡ p.lines) where
   pub whole-one : sent_of ts ≡ p.sent → Grew a b lines → IsWhole (p ∷ []) ts a b
   whole-one sent grew = record {
@@ -114,7 +114,7 @@ module _ (lines : List ℕ) (p : Piece) (ts : List Trip) (a b c : Option (List �
         sent = s.sent;
       }
 
--- or first ones of them
+-- or a prefix of them
 pub begun-before : (lines : List ℕ) (p : Piece) (a b : Option (List ℕ)) → GrewPartly a b lines
     → IsBegunAt 0 (lines_before lines p ∷ []) [] a b
 begun-before lines p a b part = record {

@@ -1,4 +1,4 @@
--- From what was read of a play's files to what its shelf holds, and what comes of the play.
+-- From what was read of a play's files to what its shelf holds, and the result of the play.
 use Rattle.std.proofs.Common.{◌≡◌, ℕ, List, Option, inl, inr, subst}
 use Rattle.lsl_ports.specs.Counts.{NoneFell}
 use Rattle.lsl_ports.specs.Shelf.{Files}
@@ -18,7 +18,7 @@ use Rattle.lsl_top.proofs.Finishing.{keeps-as, serve-concluded}
 use Rattle.lsl_top.proofs.FrozenRead.{from-frozen, frozen-read, plays-frozen}
 use Rattle.lsl_top.proofs.NotesRead.{from-noted, notes-read, plays-noted}
 
--- the texts of a play, of which these were read: what comes of these comes of those
+-- the texts of a play, of which these were read: the result of these is the result of those
 record HasRead (held : Option Files) (play : Play) (bytes : Read) : Type 0 where
   read : Read
   are : AreRead held play read

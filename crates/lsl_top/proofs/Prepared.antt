@@ -1,4 +1,4 @@
--- What comes of a play that is run with its code and its notecards, or refused.
+-- The result of a play that is run with its code and its notecards, or refused.
 use Rattle.std.proofs.Common.{ℕ, List, [], ◌∷◌, inl, inr, sym, subst}
 use Rattle.std.specs.List.{AllByRecursion}
 use Rattle.lsl_ports.specs.Trips.{Trip}

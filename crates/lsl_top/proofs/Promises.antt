@@ -45,7 +45,7 @@ module _ (files : Files) (from : World) (command : Command) (trips : List Trip) 
       (begun-sends answer.pieces trips old new begun) in
       subst (λ (z : List ℕ). GrewPartly old new z) out.is (begun-partly answer.pieces trips old new begun)
 
-  -- all of it was written, or memory lacked
+  -- all of it was written, or memory ran out
   kept-lines : (status : Status) → KeepsTo IsThis status trips old new → status ≢ Usage → status ≢ ReadFault
       → status ≢ WriteFault → WritesLines lines status old new
   kept-lines Ok k u r w = inl (wrote-lines Ok k)

@@ -1,4 +1,4 @@
--- Runs of worlds whose scripts are built.
+-- Runs of worlds with built scripts.
 use Rattle.std.proofs.Common.{◌≡◌, ◌⊎◌, ℕ, List, Option, Result, Ok, Err, inl, inr, sym, ap, ◌∙◌, subst}
 use Rattle.std.specs.Prelude.{IfErr, IfOk, IsErrOf}
 use Rattle.lsl_text.specs.declared.Refusal.{Refusal}
@@ -54,7 +54,7 @@ performs-by gives IsThen last codes units regions named steps others a b p q res
     (travel_from z (rules_of programs) regions steps trips stage).value.world)
     (λ programs stage trips. pieces_at last z (rules_of programs) regions steps trips stage) a b p q result) e h))
 
--- the refusal of a text without a frozen world, and of one whose world isn't that of the file
+-- the refusal of a text without a frozen world, and of one with a world that isn't that of the file
 pub untaken : {T : Type 0} (codes : List Code) (file : WorldFile) (text : List ℕ) (refusal : Refusal ImageFault)
     → (refusal ≡ WantsMemory) ⊎ ((refusal ≡ Fault NotFrozen) × (HasFrozenLine text → ⊥)) → (fault : ImageFault)
     → IsErrOf {T = T} (Err refusal) (Fault fault) → IsThawFault codes file text fault
@@ -89,7 +89,7 @@ thaw-found codes file text image slice (Ok m) of same is =
     (image, of, subst (λ (z : List ℕ). IsImageIn codes file (parts_in m) z) same is)
 thaw-found codes file text image slice (Err e) of same is = tt
 
--- and it is the world that the text has, where there is one
+-- and it is the world that the text has, if there is one
 pub thaw-of : {E : Type 0} (codes : List Code) (programs : List Program) (file : WorldFile) (cards : List Notecard)
     (text image slice : List ℕ) (w : World) (result : Result Memory E) → IsFrozen text image → slice ≡ image
     → IfOk result (λ m. IsImageIn codes file (parts_in m) slice) → IsFrom codes programs file cards text w

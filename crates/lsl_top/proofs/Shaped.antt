@@ -1,4 +1,4 @@
--- What a file tells of its objects is seen by what stays of a world, whatever its scripts do.
+-- What a file says of its objects is seen by what stays of a world, whatever its scripts do.
 use Rattle.std.proofs.Common.{◌≡◌, ℕ, suc, Bool, true, false, List, [], ◌∷◌, length, Option, None, refl, sym, ap, ◌∙◌}
 use Rattle.std.specs.Prelude.{nat_eq, if◌then◌else◌, map}
 use Rattle.std.specs.List.{cons_option, filter_map, range_with_len}

@@ -1,4 +1,4 @@
--- Runs at stages: where they begin, and what their pieces tell and send.
+-- Runs at stages: where they begin, and what their pieces report and send.
 use Rattle.std.proofs.Common.{◌≡◌, ℕ, List, [], ◌∷◌, ◌++◌, Some, None, Result, Ok, Err, refl, ap, ap₂, sym, ◌∙◌, subst, arith, append-nil}
 use Rattle.std.specs.Prelude.{All, IfOk}
 use Rattle.std.proofs.lemmas.List.Elements.{All-weaker}
@@ -29,7 +29,7 @@ use Rattle.lsl_top.proofs.Performing.{last-silent}
 use Rattle.lsl_top.proofs.Pieces.{lines_in-append, sent_in-append}
 use Rattle.lsl_top.proofs.Written.{lines-append}
 
--- the world in memory is where a run begins in which nothing is known of notes
+-- the world in memory is where a run without notes begins
 pub at-plain : (programs : List Program) (memory : Memory) (w : World) → IsOf programs memory w → memory.cards ≡ None
     → IsAt programs memory (plain_stage w)
 at-plain programs memory w is none = record {

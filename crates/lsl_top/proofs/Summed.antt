@@ -1,4 +1,4 @@
--- A number's world that was replayed over a sink that digests, and the line that is written of it.
+-- A seed's world that was replayed over a sink that digests, and the line that is written of it.
 use Rattle.std.proofs.Common.{◌≡◌, ◌≢◌, ℕ, ◌<◌, suc, List, [], ◌∷◌, ◌++◌, take, Option, Some, None, Result, Ok as OkResult, Err, ◌⊎◌, inl, inr, refl, sym, ap, ap₂, ◌∙◌, subst, arith}
 use Rattle.std.specs.Str.{encode_utf8_all}
 use Rattle.std.proofs.lemmas.Str.{encodes-IsAscii}
@@ -31,7 +31,7 @@ use Rattle.lsl_top.proofs.OneAnswer.{files-one}
 use Rattle.lsl_top.proofs.Pieces.{begins-through, begun-one, sent-begins, whole-one}
 use Rattle.lsl_top.proofs.Trips.{went-then}
 
--- one line stands in place of a report
+-- one line takes the place of a report
 pub summed-well : (number : ℕ) (answer : Answer) → answer.status ≡ Ok
     → summed number answer ≡ record { status = Ok; pieces = made_piece number answer.pieces ∷ [] }
 summed-well number answer e = ap (λ (s : Status). summed_as s number answer) e
@@ -62,7 +62,7 @@ refused : (answer : Answer) (status : Status) (lines : List ℕ) → status ≢ 
 refused answer status lines other e =
     subst (λ (a : Answer). IsRefusal a) (sym e) (record { other = other; lines = lines; same = refl })
 
--- nothing was written, and first ones of what one piece sends were sent
+-- nothing was written, and a prefix of what one piece sends was sent
 nothing-begun : (p : Piece) (trips : List Trip) (told : Option (List ℕ)) → Begins (sent_of trips) p.sent
     → IsBegun (p ∷ []) trips told told
 nothing-begun p trips told sent = (
@@ -75,7 +75,7 @@ nothing-begun p trips told sent = (
 pub none-rose : Rose 0 0 → ⊥
 none-rose rose = let lt : 0 < 0 = rose (omega arith) in omega (arith, lt)
 
--- a shelf with the two texts of a number, as bytes
+-- a shelf with the two texts of a seed, as bytes
 pub two-made : (number : ℕ) (world script : List ℕ) → world ≡ encode_utf8_all (world_text number)
     → script ≡ encode_utf8_all walker_text → Some (two_files world script) ≡ Some (made_files number)
 two-made number world script e f =
@@ -97,7 +97,7 @@ module _ (number : ℕ) (held : Option Files) (is : held ≡ Some (made_files nu
     refl,
   )
 
-  -- a world that was made wasn't frozen, so any fits
+  -- a generated world wasn't frozen, so any fits
   pub made-fits : (from : World) → IsFromFile held Whole made_name from
   made-fits from =
       λ bytes file holds good read are programs codes all has cards noted. tt
@@ -150,7 +150,7 @@ module _ (number : ℕ) (held : Option Files) (is : held ≡ Some (made_files nu
   run-or-refusal grade from trips answer (bytes, holds, inr (fault, first, e)) =
       inr (refused answer BadWorld (world_refusal_of made_name fault) (λ f. cc) e)
 
-  -- first ones of what the answer sends were sent, and nothing was written
+  -- a prefix of what the answer sends was sent, and nothing was written
   summed-begun : (answer : Answer) (trips : List Trip) (told : Option (List ℕ))
       → (answer.status ≡ Ok) ⊎ IsRefusal answer
       → Begins (sent_of trips) (sent_in answer.pieces) → IsBegun (summed number answer).pieces trips told told
@@ -230,7 +230,7 @@ module _ (number : ℕ) (held : Option Files) (is : held ≡ Some (made_files nu
     keeps-from status trips bytes from k =
         keeps_file-from held trips Whole made_name status (Some []) (Some bytes) from k (made-fits from)
 
-    -- what a replay over a sink that never fails tells, from its start
+    -- what a replay over a sink that never fails reports, from its start
     abbrev Over : List ℕ → Status → Type 0
     Over bytes status =
         Serves gives (Honest IsIntact) Kept Replayed (IsNamedIn held Whole made_name)
@@ -243,7 +243,7 @@ module _ (number : ℕ) (held : Option Files) (is : held ≡ Some (made_files nu
         Concludes gives (Honest IsIntact) (λ from. Unit {0})
         (λ grade from trips. Makes grade from trips number) a b before after status
 
-    -- what a replay tells that begins with nothing taken
+    -- what a replay reports that begins with nothing taken
     pub over-of : (bytes taken : List ℕ) (status ended : Status) → taken ≡ [] → ended ≡ status
         → Serves gives (Honest IsIntact) Kept Replayed (IsNamedIn held Whole made_name)
         (record { held = held; read_faults = λ name. 0; log = record { sunk = Some taken; faults = 0 }; wire = p })
@@ -307,7 +307,7 @@ module _ (number : ℕ) (held : Option Files) (is : held ≡ Some (made_files nu
         no_usage (Err WriteTrouble) e = cc
         no_usage (Err MemoryTrouble) e = cc
 
-    -- memory lacked while it was run
+    -- memory ran out while it was run
     pub concludes-lost : (bytes : List ℕ) (a : Log) → Over bytes NoMemory → Concluded p q a a NoMemory
     concludes-lost bytes a h = record {
       trips = h.trips;
@@ -371,7 +371,7 @@ module _ (number : ℕ) (held : Option Files) (is : held ≡ Some (made_files nu
         known : SendsNothing first × IsOwn first
         known = is-refused bytes first well lost h
 
-        -- of the same world comes one answer, so this is the refusal as well
+        -- one world has one answer, so this is the refusal too
         other : (grade : Grade) (from : World) (trips : List Trip) (answer : Answer)
             → ReplaysFile grade (Some (made_files number)) from trips Whole made_name answer → answer.status ≢ Ok
         other grade from trips answer of e =

@@ -64,7 +64,7 @@ went-then gives a b c ts us first second = record {
   given = All-append (λ (t : Trip). gives t.sent t.back) ts us first.given second.given;
 }
 
--- what was told before and after says which trips were made
+-- what was known before and after says which trips were made
 pub went-told : (gives : List ℕ → Option (List ℕ) → Type 0) (old new : Option (List Trip)) (before ts us : List Trip)
     → old ≡ Some before → new ≡ Some (before ++ us) → Went gives old new ts → ts ≡ us
 went-told gives old new before ts us told tells went =

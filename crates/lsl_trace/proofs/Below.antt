@@ -1,4 +1,4 @@
--- What is known of the shelf below, when the one over it was handed on.
+-- What is known of the shelf below, after the one over it was passed on.
 use Rattle.std.proofs.Common.{◌≡◌, ℕ, ◌≤◌, ◌==◌, List, [], ◌∷◌, Option, Some, None, ap, refl, if◌then◌else◌, arith}
 use Rattle.std.specs.Prelude.{unwrap_or}
 use Rattle.std.proofs.lemmas.Bool.Decides.{nat_tests}

@@ -1,4 +1,4 @@
--- How a trace ends, from what comes of its world's replay.
+-- How a trace ends, from the result of its world's replay.
 use Rattle.std.proofs.Common.{◌≡◌, List, ℕ, Option, None, inl, inr, subst}
 use Rattle.lsl_top.specs.Ends.{Outside, outside}
 use Rattle.lsl_ports.specs.Shelf.{Files}

@@ -5,8 +5,8 @@ use Rattle.std.specs.Str.{bytes_eq}
 use Rattle.lsl_ports.specs.Shelf.{Files}
 use Rattle.lsl_trace.specs.declared.copies.Replaced.{Replaced}
 
--- A name that doesn't begin with a byte, so that no file has it. Under these names the shelf tells what is below it:
--- whoever hands it on knows that it is still over the same shelf.
+-- A name that doesn't begin with a byte, so that no file has it. Under these names the shelf reports what is below it:
+-- code that passes it on knows that it is still over the same shelf.
 abbrev pub is_aside : List ℕ → Bool
 is_aside name = nat_lt 255 (slice_index name 0)
 
@@ -22,7 +22,7 @@ abbrev pub files_over : List Replaced → Files → Files
 files_over all files name =
     if is_aside name then files (drop 1 name) else text_over (find (is_named name) all) (files name)
 
--- where the shelf below tells, the first that replaces a name's file counts
+-- where the shelf below reports its files, the first that replaces a name's file counts
 abbrev pub held_over : List Replaced → Option Files → Option Files
 held_over all None = None
 held_over all (Some files) = Some (files_over all files)

@@ -39,7 +39,7 @@ pub record Replays (gives : List ℕ → Option (List ℕ) → Type 0) (world : 
 abbrev pub TracesIn : Request → List ℕ → List ℕ → Type 0
 TracesIn request journal text = Traces request.first request.last journal text
 
--- what a sink tells
+-- what a sink reports
 pub record Taken : Type 0 where
   pub bytes : Option (List ℕ)
   pub faults : ℕ
@@ -47,23 +47,23 @@ pub record Taken : Type 0 where
 abbrev pub taken : Option (List ℕ) → ℕ → Taken
 taken bytes faults = record { bytes = bytes; faults = faults }
 
--- first ones of these bytes were written, and then the sink failed
+-- a prefix of these bytes was written, and then the sink failed
 pub record Breaks (bytes : List ℕ) (old new : Taken) : Type 0 where
   pub part : GrewPartly old.bytes new.bytes bytes
   pub rose : Rose old.faults new.faults
 
--- these bytes were written, and then it ended so; or the sink failed
+-- these bytes were written, and then it ended with this; or the sink failed
 abbrev pub WritesAs : List ℕ → Ended → Taken → Taken → Ended → Type 0
 WritesAs bytes ended old new result =
     ((result ≡ ended) × Grew old.bytes new.bytes bytes) ⊎ ((result ≡ Refused WriteFault) × Breaks bytes old new)
 
--- what comes of a world with this plain journal: its trace, or the journal where that isn't lines; or it ended early
+-- the result of a world with this plain journal: its trace, or the journal if that isn't lines; or it ended early
 abbrev pub Comes : Request → List ℕ → Taken → Taken → Ended → Type 0
 Comes request journal old new result =
     ((text : List ℕ) × TracesIn request journal text × WritesAs text Told old new result)
     ⊎ (WritesAs journal (Refused Ok) old new result ⊎ (StopsEarly result × (new.bytes ≡ old.bytes)))
 
--- what comes of a world whose replay ends so, with this written
+-- the result of a world with this end of its replay, and this written
 abbrev pub ComesOf : Request → Status → List ℕ → Taken → Taken → Ended → Type 0
 ComesOf request status written old new result =
     ((status ≡ Ok) × Comes request written old new result)
@@ -81,7 +81,7 @@ IsTold gives request before old new =
     (journal text : List ℕ) × Replays gives request.world.now before Ok journal × TracesIn request journal text
     × Grew old.bytes new.bytes text
 
--- the world's replay ends so, and what it writes was written
+-- the world's replay ends with this, and what it writes was written
 abbrev pub IsReplayed : (List ℕ → Option (List ℕ) → Type 0) → Request → Outside → Status → Taken → Taken → Type 0
 IsReplayed gives request before status old new =
     (written : List ℕ) × Replays gives request.world.now before status written × Grew old.bytes new.bytes written
@@ -90,7 +90,7 @@ IsReplayed gives request before status old new =
 abbrev pub IsBroken : (List ℕ → Option (List ℕ) → Type 0) → Request → Outside → Taken → Taken → Type 0
 IsBroken gives request before old new = (bytes : List ℕ) × CanWrite gives request before bytes × Breaks bytes old new
 
--- The trace ended so. Refused is as the world's replay ends; or the sink failed; or it was out of memory or a file
+-- How the trace ended. Refused is as the world's replay ends; or the sink failed; or it was out of memory or a file
 -- couldn't be read again, and nothing was written.
 abbrev pub EndsSo : (List ℕ → Option (List ℕ) → Type 0) → Request → Outside → Taken → Taken → Ended → Type 0
 EndsSo gives request before old new Told = IsTold gives request before old new

@@ -9,14 +9,14 @@ use Rattle.lsl_marks.specs.declared.entries.Entry.{Entry}
 abbrev pub asks_for : (first last : ℕ) → Entry → Bool
 asks_for first last e = nat_le first e.step && nat_le e.step last
 
--- These entries are written: those of the steps that are asked for, or all where no steps are known. They are all
--- where all steps are asked for.
+-- These entries are written: those of the steps that are asked for, or all if no steps are known. They are all where
+-- all steps are asked for.
 pub record AreAsked (first last : ℕ) (entries asked : List Entry) : Type 0 where
   pub each : (asked ≡ filter (asks_for first last) entries)
       ⊎ ((asked ≡ entries) × All (λ (e : Entry). e.step ≡ 0) entries)
   pub all : first ≡ 0 → last ≡ 18446744073709551615 → asked ≡ entries
 
--- The text has some tables, and then the lines of those entries whose steps are asked for. All entries together say
+-- The text has some tables, and then the lines of the entries in the steps that are asked for. All entries together say
 -- this journal.
 pub record Traces (first last : ℕ) (journal text : List ℕ) : Type 0 where
   pub tables : List ℕ

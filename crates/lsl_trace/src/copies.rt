@@ -1,4 +1,5 @@
-//! The copies of a world: its scripts with markers, and its file with one object more, whose touches part the steps.
+//! The copies of a world: its scripts with markers, and its file with one object more, with touches that separate the
+//! steps.
 
 ghost use Rattle.std.specs.Prelude.{◌≡◌, ◌≤◌, length, option_map};
 ghost use Rattle.std.specs.List.{find};
@@ -63,7 +64,7 @@ impl<S: Shelf> Shelf for Copies<'_, S> {
     }
 }
 
-/// Replays a world over copies, which stay over the same shelf, and only read it.
+/// Replays a world over copies, which use the same shelf, and only read it.
 pub fn replay_copies<S: Shelf, K: Sink, L: Link>(
     alloc: Global,
     world: &str,
@@ -86,7 +87,7 @@ fn copy_of<'a>(copies: &'a [Replaced], name: &str) -> Option<&'a Replaced>
     copies.iter().find(|it| it.is_named(name))
 }
 
-/// Copies bytes from `place` on into the piece, and answers how many.
+/// Copies bytes from `place` on into the piece, and returns how many.
 fn copy_from(text: &[u8], place: u64, piece: &mut [u8]) -> usize
     ensures within { result ≤ length piece.new }
     ensures copied { CopiesBytes text.now place piece.new result }

@@ -30,8 +30,8 @@ pub enum Ended {
     /// It was written whole.
     Told,
     /// As `replay` ends for the world, and what `replay` writes then was written; `Ok` if that isn't lines, so that no
-    /// trace can tell them. At `WriteFault` the sink failed, and took a part. At `NoMemory` and `ReadFault` nothing may
-    /// have been written.
+    /// trace can report them. At `WriteFault` the sink failed, and took a prefix. At `NoMemory` and `ReadFault` nothing
+    /// may have been written.
     Refused(Status),
     /// A journal is longer than 64 MiB, and nothing was written.
     TooLong,

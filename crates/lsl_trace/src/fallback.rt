@@ -1,4 +1,4 @@
-//! The runs of the copies, until they do what the scripts do: a script that does something else with its markers gets
+//! The runs of the copies, until they do what the scripts do. A script that does something else with its markers gets
 //! fewer of them, and the others keep theirs.
 
 ghost use Rattle.std.specs.Prelude.{◌≡◌, ◌≤◌, IfOk};
@@ -26,8 +26,8 @@ pub struct World<'a> {
     pub mark: &'a [u8],
 }
 
-/// The copies that did what the scripts do: their markers, and their journal. Without these nothing but the plain
-/// journal is told.
+/// The copies that did what the scripts do: their markers, and their journal. Without these only the plain journal is
+/// reported.
 #[derive(Drop)]
 pub struct Held {
     pub markers: Vec<Marker>,
@@ -42,7 +42,7 @@ enum Attempt {
     Full,
 }
 
-/// Whose copy is to tell less.
+/// The copies that are to report less.
 #[derive(Clone, Copy, Debug, PartialEq, Eq)]
 enum Blame {
     /// The unit at this place.
@@ -61,7 +61,7 @@ pub enum Settled {
 }
 
 impl World<'_> {
-    /// The entries that copies told, if they did what the scripts do.
+    /// The entries that copies reported, if they did what the scripts do.
     pub fn read<'b>(&'b self, alloc: Global, held: &'b Held) -> Result<Told<'b>, NoMemory>
         ensures { IfOk result (λ told. Says told self.now.plain.now) }
     {
@@ -127,7 +127,7 @@ impl World<'_> {
         self.attempted(alloc, units, status, Held { markers, journal })
     }
 
-    /// Adds the copies of the scripts that tell something. Answers the place of one that is too long.
+    /// Adds the copies of the scripts that report something. Returns the place of one that is too long.
     fn push_copies(
         &self,
         alloc: Global,
@@ -196,7 +196,7 @@ fn refused_in(alloc: Global, units: &[Unit], output: &[u8]) -> Result<Blame, NoM
     Ok(Blame::All)
 }
 
-/// Lets a unit tell less, or where that tells nothing all of them. Answers whether one told something.
+/// Lets a unit report less, or all of them if it reports nothing already. Returns whether one reported something.
 fn tell_less(units: &mut [Unit], blame: Blame) -> bool {
     if let Blame::Unit(place) = blame
         && let Some(unit) = units.get_mut(place)

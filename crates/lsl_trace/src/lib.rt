@@ -1,5 +1,4 @@
-//! A trace of a world: which statements its scripts begin, with the values of variables, by a run of copies that tell
-//! it.
+//! A trace of a world: which statements its scripts begin, with the values of variables. A run of copies reports it.
 #![tactic(auto)]
 
 ghost use Rattle.std.specs.Prelude.{◌≡◌, ◌≤◌};
@@ -23,8 +22,10 @@ use lsl_ports::{Link, Shelf, Sink, write_all};
 use lsl_top::Status;
 use std::alloc::Global;
 
-/// Writes the trace of a world. The world is run as `replay` runs it, and so are copies of its scripts that tell which
-/// statement comes. It takes memory for 64 MiB of each journal, for the copies, and for the trace.
+/// Writes the trace of a world.
+///
+/// The world is run as `replay` runs it, and so are copies of its scripts that report which statement comes. It takes
+/// memory for 64 MiB of each journal, for the copies, and for the trace.
 pub fn trace<S: Shelf, K: Sink, L: Link>(
     alloc: Global,
     request: &Request<'_>,
@@ -47,7 +48,7 @@ pub fn trace<S: Shelf, K: Sink, L: Link>(
     }
 }
 
-/// Writes the trace of a world that was replayed so, or what it wrote.
+/// Writes the trace of a world that was replayed like this, or what it wrote.
 fn trace_run<S: Shelf, K: Sink, L: Link>(
     alloc: Global,
     request: &Request<'_>,
@@ -93,7 +94,7 @@ fn trace_replayed<S: Shelf, K: Sink, L: Link>(
     }
 }
 
-/// Writes these bytes, and ends so.
+/// Writes these bytes, and ends with this.
 fn write<K: Sink>(sink: &mut K, bytes: &[u8], ended: Ended) -> Ended
     ensures ended { WritesAs bytes.now ended
         (taken (K.sunk sink.old) (K.faults sink.old)) (taken (K.sunk sink.new) (K.faults sink.new)) result }

@@ -64,7 +64,7 @@ pub fn replay<S: Shelf, K: Sink, L: Link>(
     Ok(serve(alloc, &words, shelf, sink, link))
 }
 
-/// Does what the words ask for.
+/// Runs the command that the words ask for.
 fn serve<S: Shelf, K: Sink, L: Link>(
     alloc: Global,
     words: &[String],

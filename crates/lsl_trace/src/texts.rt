@@ -17,7 +17,7 @@ use lsl_marks::{
 use lsl_text::NoMemory;
 use std::alloc::Global;
 
-/// The tables of a world, and the entries of the steps that are asked for; none where the plain journal isn't lines.
+/// The tables of a world, and the entries of the steps that are asked for; none if the plain journal isn't lines.
 pub fn whole_text(
     alloc: Global,
     request: &Request<'_>,
@@ -40,7 +40,7 @@ pub fn whole_text(
     }
 }
 
-/// The tables of a world whose copies can't be run, and its plain journal; none where this isn't lines.
+/// The tables of a world without runnable copies, and its plain journal; none if this isn't lines.
 pub fn bare_text(
     alloc: Global,
     request: &Request<'_>,
@@ -61,7 +61,7 @@ pub fn bare_text(
     }
 }
 
-/// Appends the lines of those entries whose steps are asked for.
+/// Appends the lines of the entries in the steps that are asked for.
 fn push_asked(
     alloc: Global,
     out: &mut Vec<u8>,
@@ -75,7 +75,7 @@ fn push_asked(
     push_entries(out, asked.as_slice())
 }
 
-/// The entries whose steps are asked for.
+/// The entries in the steps that are asked for.
 fn asked_of<'a>(
     alloc: Global,
     request: &Request<'_>,

@@ -31,7 +31,7 @@ pub fn tildes_of_files(file: &WorldFile) -> usize {
     most
 }
 
-/// The most tildes with which a text begins that is said to an owner.
+/// The most tildes at the start of a text that is said to an owner.
 pub fn tildes_told(plain: &[u8]) -> usize {
     let mut most = 0;
     let mut from = 0;

@@ -21,7 +21,7 @@ use std::alloc::Global;
 /// How many bytes of a world file are read.
 const MAX_WORLD_BYTES: u64 = 1_048_576;
 
-/// The text of the trace of a world with this plain journal; none where the journal isn't lines.
+/// The text of the trace of a world with this plain journal; none if the journal isn't lines.
 pub fn trace_text<S: Shelf, L: Link>(
     alloc: Global,
     request: &Request<'_>,
@@ -67,7 +67,7 @@ fn read_file(alloc: Global, bytes: &[u8]) -> Result<WorldFile, Ended>
     }
 }
 
-/// Runs copies, and gives the text of what they told.
+/// Runs copies, and returns the text of what they reported.
 fn settled_text<S: Shelf, L: Link>(
     alloc: Global,
     request: &Request<'_>,

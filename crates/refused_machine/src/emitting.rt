@@ -33,7 +33,7 @@ pub fn conjunction(draft: &mut Draft, first: i32, second: i32) -> Result<(), NoM
     draft.push(Instr::Binary(BinaryOp::Both))
 }
 
-/// Emits `llGetFreeMemory()`: the limit of the moment counts.
+/// Emits `llGetFreeMemory()`: the current limit counts.
 pub fn free_memory(draft: &mut Draft, line: u32) -> Result<(), NoMemory>
     ensures { OnOk result (draft.new ≡ draft.old ++ call_code (Builtin GetFreeMemory) line) }
 {

@@ -6,7 +6,7 @@ ghost use Rattle.lsl_meaning.specs.Examples.{adding, first_whole, jumping, left_
 
 use lsl_meaning::examples::{jump_back, right_operand_first, used_memory};
 
-/// What `x + (x = 3)` gives where `x` was 5.
+/// The value of `x + (x = 3)` if `x` was 5.
 pub fn sum_after_assignment() -> u32
     ensures { first_whole adding 0 1 [] ≡ left_with (pos 3 ∷ pos result ∷ []) }
 {
@@ -14,7 +14,7 @@ pub fn sum_after_assignment() -> u32
     6
 }
 
-/// What `f() + 1` gives where `f` gives the charge, with the 1 waiting.
+/// The value of `f() + 1` if `f` gives the charge, with the 1 waiting.
 pub fn charge_and_one() -> u32
     ensures { first_whole measuring 1 2 [] ≡ left_with (pos result ∷ []) }
 {

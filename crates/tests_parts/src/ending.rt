@@ -31,7 +31,7 @@ fn ended(alloc: Global, command: &str, bytes: &[u8]) -> Result<Ending, AllocErro
     })
 }
 
-/// Shows what a command asks of the bytes; false where they are refused.
+/// Shows what a command asks of the bytes; false if they are refused.
 fn show(shown: &mut Shown, command: &str, bytes: &[u8]) -> Result<bool, AllocError> {
     match command {
         "tokens s.lsl" => front::show_tokens(shown, bytes, false),

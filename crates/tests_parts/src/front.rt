@@ -1,4 +1,4 @@
-//! What the front end makes of a text, in compact forms.
+//! What the front end does with a text, in compact forms.
 
 mod printed;
 mod signs;
@@ -16,7 +16,7 @@ use lsl_tree::{Program, Tree};
 use lsl_type::check;
 use std::alloc::{AllocError, Global};
 
-/// The tree of a text; nothing where it is refused.
+/// The tree of a text; nothing if it is refused.
 fn tree_of(alloc: Global, text: &[u8]) -> Result<Option<Tree>, AllocError> {
     match accepted(lex(alloc, text))? {
         Some(tokens) => accepted(parse(alloc, &tokens)),
@@ -31,7 +31,7 @@ fn program_of(alloc: Global, text: &[u8]) -> Result<Option<Program>, AllocError>
     }
 }
 
-/// Shows the tree of a text; false where it is refused.
+/// Shows the tree of a text; false if it is refused.
 pub fn show_tree(shown: &mut Shown, text: &[u8]) -> Result<bool, AllocError> {
     match tree_of(shown.alloc(), text)? {
         Some(tree) => {
@@ -42,7 +42,7 @@ pub fn show_tree(shown: &mut Shown, text: &[u8]) -> Result<bool, AllocError> {
     }
 }
 
-/// Shows the checked program of a text; false where it is refused.
+/// Shows the checked program of a text; false if it is refused.
 pub fn show_program(shown: &mut Shown, text: &[u8]) -> Result<bool, AllocError> {
     match program_of(shown.alloc(), text)? {
         Some(program) => {

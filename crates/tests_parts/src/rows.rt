@@ -1,11 +1,11 @@
-//! Rows: what is asked, ` -> `, what is told of it, and after ` # ` what the row shows.
+//! Rows: what is asked, ` -> `, the answer, and after ` # ` what the row shows.
 
 use crate::shown::Shown;
 use crate::words::parted;
 use crate::{handoff, lines, stores, values};
 use std::alloc::AllocError;
 
-/// Shows each row that isn't told as it says, and how many rows hold. A line that begins with `#` is a remark.
+/// Shows each row that isn't answered as it says, and how many rows hold. A line that begins with `#` is a remark.
 pub fn show_rows(shown: &mut Shown, topic: &str, rows: &str) -> Result<(), AllocError> {
     let mut held = 0u32;
     for row in rows.lines() {
@@ -18,7 +18,7 @@ pub fn show_rows(shown: &mut Shown, topic: &str, rows: &str) -> Result<(), Alloc
     Ok(())
 }
 
-/// Whether a row is told as it says. Where it isn't, that is shown.
+/// Whether a row is answered as it says. Shows it if it isn't.
 fn holds(shown: &mut Shown, topic: &str, row: &str) -> Result<bool, AllocError> {
     let (asked, answer) = row.split_once(" -> ").unwrap_or((row, "an answer"));
     let (want, _shows) = parted(answer, " # ");
@@ -39,7 +39,7 @@ fn told(shown: &Shown, topic: &str, asked: &str) -> Result<String, AllocError> {
     told.into_text()
 }
 
-/// What is told of what is asked, by the topic's reader of rows.
+/// The answer to what is asked, by the topic's reader of rows.
 fn tell(told: &mut Shown, topic: &str, asked: &str) -> Result<(), AllocError> {
     let (word, rest) = parted(asked, " ");
     match topic {

@@ -3,7 +3,8 @@
 use std::alloc::{AllocError, Global};
 use std::fmt::{Debug, Display};
 
-/// A text that is shown. Where memory ended, it lacks a part, and `into_text` says so: what shows a part need not.
+/// A text that is shown. If memory ran out, a part is missing, and `into_text` says so: code that shows a part need
+/// not.
 #[derive(Drop)]
 pub struct Shown {
     text: String,

@@ -7,7 +7,7 @@ use crate::shown::Shown;
 use lsl_value::Text;
 use std::alloc::{AllocError, Global};
 
-/// So many of a text, one after the other.
+/// A text `count` times, one after the other.
 fn repeated(alloc: Global, part: &str, count: u32) -> Result<String, AllocError> {
     let mut text = Shown::new(alloc);
     for _ in 0..count {

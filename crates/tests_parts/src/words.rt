@@ -1,11 +1,11 @@
 //! The words of a row.
 
-/// What is before the first sign, and what is after it: all and nothing where there is none.
+/// What is before the first sign, and what is after it: all and nothing if there is none.
 pub fn parted<'a>(text: &'a str, sign: &str) -> (&'a str, &'a str) {
     text.split_once(sign).unwrap_or((text, ""))
 }
 
-/// The number that a word is, or 0: then its row fails by what is shown.
+/// The number that a word means, or 0: then its row fails by what is shown.
 pub fn long(word: &str) -> u64 {
     word.parse::<u64>().unwrap_or(0)
 }

@@ -1,4 +1,4 @@
--- Where a script stands after a turn.
+-- Where a script is after a turn.
 use Rattle.lsl_code.specs.declared.woven_units.Woven.{Woven}
 use Rattle.lsl_script.specs.declared.live.Live.{Live}
 use Rattle.lsl_script.specs.declared.live.Turn.{Turn}

@@ -1,4 +1,4 @@
--- How many operands stand before each instruction of the sample's woven code.
+-- The number of operands before each instruction of the sample's woven code.
 use Rattle.std.specs.Prelude.{ℕ, List, [], ◌∷◌, Option, Some, None, length, map, option_map}
 use Rattle.lsl_value.specs.declared.tagged.Kind.{Kind}
 

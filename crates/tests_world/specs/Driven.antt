@@ -1,4 +1,4 @@
--- Machines of a handler that can run, and those that stand at a tick.
+-- Machines of a handler that can run, and those at a tick.
 use Rattle.std.specs.Prelude.{◌≡◌, ◌≤◌, ℕ}
 use Rattle.lsl_running.specs.Charging.{default_limit}
 use Rattle.lsl_code.specs.declared.woven_units.Woven.{Woven}

@@ -1,4 +1,4 @@
--- Where a script stands after a turn, or after a call that stops it.
+-- Where a script is after a turn, or after a call that stops it.
 use Rattle.std.specs.Prelude.{◌≡◌}
 use Rattle.lsl_code.specs.declared.woven_units.Woven.{Woven}
 use Rattle.lsl_machine.specs.declared.standing.Standing.TheVariants as standing
@@ -14,7 +14,7 @@ StandsAt unit turn.Ended live = HasEnded unit live
 StandsAt unit (turn.Faulted fault) live = Unit {0}
 StandsAt unit turn.NoMemory live = Unit {0}
 
--- it is awake, and has come so far
+-- it is awake, and has come this far
 pub record IsAfter (unit : Woven) (turn : Turn) (live : Live) : Type 0 where
   pub awake : IsAwake unit live
   pub stands : StandsAt unit turn live

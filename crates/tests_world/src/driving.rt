@@ -12,7 +12,7 @@ use lsl_text::NoMemory;
 use lsl_value::{BuiltinId, EventId, Items, Kind, Text, Value, Values};
 use std::alloc::{AllocError, Global};
 
-/// What a script is charged at most.
+/// The greatest charge of a script.
 const LIMIT: u32 = 65_536;
 
 /// The first state's handler of a touch before its first tick, if there is one, with one argument.
@@ -28,8 +28,8 @@ pub(crate) fn touched(alloc: Global, unit: &Woven) -> Result<Option<(u16, Machin
     Ok(Some((handler, machine)))
 }
 
-/// Goes on to the next tick, and tells what was asked, and how the handler ended. Whatever is asked for is answered
-/// with an empty value.
+/// Continues to the next tick, and shows what was asked, and how the handler ended. Every host call is answered with an
+/// empty value.
 pub(crate) fn to_tick(
     alloc: Global,
     unit: &Woven,
@@ -99,7 +99,7 @@ pub(crate) fn unparked(
     Ok((machine, steps))
 }
 
-/// The handler of a touch at the tick behind so many, if it comes so far.
+/// The handler of a touch at a tick after others, if it gets there.
 pub(crate) fn behind_ticks(
     alloc: Global,
     unit: &Woven,

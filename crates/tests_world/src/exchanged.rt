@@ -45,7 +45,7 @@ fn stacks(alloc: Global) -> Result<KindStacks, NoMemory>
     Ok(stack.into_noted())
 }
 
-/// The operands before each instruction while it runs, and none where the added code stands.
+/// The operands before each instruction while it runs, and none in the added code.
 fn running(alloc: Global) -> Result<PlacedStacks, NoMemory>
     ensures { IfOk result (λ stacks. stacks ≡ exchanged_running) }
 {
@@ -66,7 +66,7 @@ fn running(alloc: Global) -> Result<PlacedStacks, NoMemory>
     Ok(placing.finish(22))
 }
 
-/// The handler of the text below, as weaving makes it, but for the order of its keeps.
+/// The handler of the text below, as weaving makes it, except for the order of its keeps.
 fn function(alloc: Global) -> Result<WovenCode, NoMemory>
     ensures { IfOk result (λ function. function ≡ exchanged_code) }
 {
@@ -164,7 +164,7 @@ fn exchanged(alloc: Global) -> Result<Woven, NoMemory> {
 const TEXT: &str =
     "default { touch_start(integer t) { integer a = 1; integer b = 2; while (1) ; } }";
 
-/// The frames that are saved at the second tick of a handler, and those at the next one behind them.
+/// The frames that are saved at the second tick of a handler, and those at the next one after them.
 fn saved_twice(alloc: Global, unit: &Woven) -> Result<String, NoMemory> {
     let mut told = String::new(alloc);
     let mut rest = String::new(alloc);

@@ -6,7 +6,7 @@ use lsl_value::{Text, Value, Values};
 use std::alloc::Global;
 use std::test::Fail;
 
-/// A number that a word is, or 0.
+/// The number that a word means, or 0.
 pub(crate) fn number(word: &str) -> u16 {
     word.parse::<u16>().unwrap_or(0)
 }
@@ -34,7 +34,7 @@ fn frame(alloc: Global, words: &str) -> Result<Frame, NoMemory> {
     })
 }
 
-/// Frames, with commas between; none where there is no word.
+/// Frames, with commas between; none if there is no word.
 pub(crate) fn sack(alloc: Global, words: &str) -> Result<Sack, NoMemory> {
     let mut pack = Pack::with_room(alloc, 0, 0)?;
     if words.is_empty() {

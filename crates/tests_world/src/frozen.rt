@@ -5,8 +5,8 @@ use crate::stepping::frozen_twice;
 use crate::texts::{CALLS, world_of};
 use std::test::Fail;
 
-/// Steps, and what the frozen world has behind them: how many bytes, and its last ones, the digest, which another
-/// program worked out from the form of images.
+/// Steps, and what the frozen world has after them: its number of bytes, and its last ones, the digest, which another
+/// program computed from the form of images.
 const ROWS: &str =
     "touch; go 1 4 -> 247 d93bdb09a35b3a304d6a8e69c0c74be24bd6d469ad078fdc13433339836aaaf7
 touch; go 1 4; cross 1 \"B\"; clock 7000 -> 247 c2c415887e81f86ddeefc896c4bb904f4f339fe061ef5e3651825dab69078190";

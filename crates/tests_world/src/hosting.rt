@@ -1,4 +1,4 @@
-//! A host of one script: it answers calls that change the mailbox, and tells in words what the script does.
+//! A host of one script: it answers calls that change the mailbox, and shows in words what the script does.
 
 ghost use Rattle.std.specs.Prelude.{◌≡◌, ◌≤◌, ℕ, IfOk, OnOk};
 ghost use Rattle.lsl_code.specs.declared.woven_units.Woven.{Woven as Code};
@@ -68,7 +68,7 @@ fn tell_taken(live: &Live, told: &mut String) -> Result<(), NoMemory> {
     Ok(())
 }
 
-/// To the next tick, end or fault, with all answers on the way. Want of memory also where it asks a thousand times.
+/// To the next tick, end or fault, with all answers on the way. Out of memory also if it makes a thousand calls.
 fn to_stop(
     alloc: Global,
     unit: &Woven,
@@ -92,7 +92,7 @@ fn to_stop(
     Err(AllocError)
 }
 
-/// The script at rest where it came to a tick, ended or stopped.
+/// The script at rest at a tick, or after it ended or stopped.
 pub(crate) fn stopped(
     alloc: Global,
     unit: &Woven,
@@ -122,7 +122,7 @@ pub(crate) fn stopped(
     }
 }
 
-/// A call is done and answered, and the script goes on.
+/// Does and answers a call, and lets the script continue.
 fn answered(
     alloc: Global,
     unit: &Woven,
@@ -157,7 +157,7 @@ pub(crate) fn tell_call(call: &Call, told: &mut String) -> Result<(), NoMemory> 
     }
 }
 
-/// What the call does to the mailbox, and its answer. Want of memory also at any other call.
+/// What the call does to the mailbox, and its answer. Out of memory also at any other call.
 fn perform(live: &mut Live, call: &Call, clock: u64) -> Result<Reply, NoMemory>
     requires clock { clock ≤ latest_clock }
     ensures keeps { OnOk result (Keeps live.old live.new) }
@@ -179,7 +179,7 @@ fn perform(live: &mut Live, call: &Call, clock: u64) -> Result<Reply, NoMemory>
     }
 }
 
-/// The first of these values if it is an integer, and else 0.
+/// The first of these values if it is an integer, and otherwise 0.
 pub(crate) fn first_of(args: &[Value]) -> i32 {
     match args.first() {
         Some(Value::Int(n)) => *n,
@@ -202,7 +202,7 @@ fn listen(live: &mut Live, channel: i32) -> Result<Reply, NoMemory>
     }
 }
 
-/// The timer is set.
+/// Sets the timer.
 fn set_timer(live: &mut Live, seconds: i32, clock: u64)
     requires { clock ≤ latest_clock }
     ensures { Keeps live.old live.new }

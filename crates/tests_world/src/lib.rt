@@ -1,5 +1,5 @@
 //! Tests of woven code, machines, what waits for a script, scripts at rest, images and worlds: what no clause says of
-//! them and no line prints, by rows of text whose answers come from outside.
+//! them and no line prints. Rows of text have the answers, which come from elsewhere.
 #![tactic(auto)]
 
 #[cfg(test)]

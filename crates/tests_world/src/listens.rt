@@ -1,4 +1,4 @@
-//! Listens up to the most that stand, closed, made active or not, and asked for again.
+//! Listens up to the greatest number, closed, made active or not, and asked for again.
 
 ghost use Rattle.std.specs.Prelude.{◌≡◌, []};
 ghost use Rattle.lsl_post.specs.Filters.{filter};
@@ -12,7 +12,7 @@ use std::process::Abort;
 use std::test::Fail;
 
 /// Does what is asked: `add` a listen on a channel, `close` the listen of a number, or make it active by `open` and
-/// not by `shut`. The number of a listen, and 0 where there are too many or none is asked for.
+/// inactive by `shut`. Returns the number of a listen, and 0 if there are too many or none is asked for.
 fn asked(listens: &mut Listens, word: &str, number: i32) -> Result<i32, NoMemory> {
     match word {
         "add" => return add(listens, number),
@@ -36,8 +36,8 @@ fn hears(listens: &Listens, channel: i32) -> bool {
     listens.hears(channel, &Text::new(), &Text::new(), &Text::new())
 }
 
-/// All of it is asked, one line after the other: what is asked; the number answered, or 0; the next number and how many
-/// stand then; and whether texts on channels 7 and 8 are heard.
+/// All of it is asked, one line after the other: what is asked; the number answered, or 0; the next number and the
+/// number of listens then; and whether texts on channels 7 and 8 are heard.
 fn answers(
     rt: &impl Abort,
     alloc: Global,
@@ -78,7 +78,7 @@ fn closed_and_controlled(rt: HostRuntime) -> Result<(), Fail> {
     Ok(answers(&rt, rt.alloc(), Listens::new(rt.alloc()), CONTROLLED)?)
 }
 
-/// Where the greatest number and 1 stand, and the next is the one before the greatest.
+/// The greatest number and 1 are taken, and the next is the one before the greatest.
 const BEHIND: &str = "\
 add 8 -> 2147483646; 2147483647 3 false true\n\
 add 21 -> 2; 3 4 false true\n\
@@ -114,7 +114,7 @@ fn late(alloc: Global) -> Result<Listens, NoMemory> {
     Listens::from_list(alloc, 2_147_483_646, list)
 }
 
-/// The last of the most that stand, and one more; another one goes for it.
+/// The last possible listen, and one too many; then one is closed for it.
 const FULL: &str = "\
 add 64 -> 65; 66 65 true true\n\
 add 3 -> 4; 66 65 true true\n\

@@ -46,7 +46,7 @@ first 4 0003 d60928086286d65409ac26e3f210d2aeb5edb52b6f3aeb1c8761553436a522c5 ->
 first 4 0000 1b406072bcc901097aaa9bd6639edb80abd2b26bfb45fc9b3dd5d8606050ec97 -> version=0
 first 40 eb 280594368af8b2f593aad7182b89c01a750e8af10e7668fc386064081e9274e8 -> code=235,234";
 
-/// What a hexadecimal digit stands for.
+/// The value of a hexadecimal digit.
 fn digit(byte: u8) -> Option<u8> {
     match byte {
         b'0'..=b'9' => Some(byte - b'0'),
@@ -55,7 +55,7 @@ fn digit(byte: u8) -> Option<u8> {
     }
 }
 
-/// The bytes of hexadecimal digits. What is none is passed over.
+/// The bytes of hexadecimal digits. Other characters are skipped.
 pub(crate) fn unhex(alloc: Global, digits: &str) -> Result<Vec<u8>, NoMemory> {
     let mut bytes = Vec::new(alloc);
     let mut first = None;
@@ -169,7 +169,7 @@ fn changed_images(rt: HostRuntime) -> Result<(), Fail> {
     Ok(())
 }
 
-/// What is told of an image with the byte at this place raised by one.
+/// The result for an image with the byte at this place raised by one.
 fn raised(alloc: Global, library: &Library, name: &str, place: usize) -> Result<String, NoMemory> {
     let mut bytes = image(alloc, name)?;
     if let Some(byte) = bytes.get_mut(place) {
@@ -178,7 +178,7 @@ fn raised(alloc: Global, library: &Library, name: &str, place: usize) -> Result<
     told(alloc, library, name, bytes.as_slice())
 }
 
-/// Whether each byte of an image, raised by one, is told: those of the size as such.
+/// Whether each byte of an image, raised by one, is noticed: those of the size as such.
 fn raised_bytes(
     rt: &impl Abort,
     alloc: Global,

@@ -3,8 +3,8 @@
 use crate::turns::plays;
 use std::test::Fail;
 
-/// Each play: its steps, what is told of each and the script's parts behind it (`turns::tell_parts`), and behind `--`
-/// the script. A line with no ` -> ` is a remark, and an empty one stands between plays.
+/// Each play: its steps, the result of each and the script's parts after it (`turns::tell_parts`), and after `--` the
+/// script. A line without ` -> ` is a remark, and plays are separated by empty lines.
 const PLAYS: &str = r##"# Two states, of which the first has an exit.
 go 0 -> took state_entry, llListen 7, llSetTimerEvent 5, done 1032 None; 0 None 0 2 1 5 5000 0 Idle 0
 touches 2 -> queued; 0 None 2 2 1 5 5000 0 Idle 0

@@ -15,7 +15,7 @@ fn filled(alloc: Global, count: i32) -> Result<Queue, NoMemory> {
     Ok(queue)
 }
 
-/// A touch is put: the number of what is given back, and 0 where nothing is.
+/// Puts a touch: the number of what is returned, and 0 if nothing is.
 fn put(alloc: Global, queue: &mut Queue, at: i32) -> Result<i32, NoMemory> {
     Ok(match queue.put(touch(alloc, at)?) {
         Some(event) => number(&event),
@@ -23,7 +23,7 @@ fn put(alloc: Global, queue: &mut Queue, at: i32) -> Result<i32, NoMemory> {
     })
 }
 
-/// The number of the event that is taken: 0 of a timer event, and -1 where none waits.
+/// Takes an event and returns its number: 0 for a timer event, and -1 if none waits.
 fn take(queue: &mut Queue) -> i32 {
     match queue.take() {
         Some(event) => number(&event),
@@ -31,7 +31,7 @@ fn take(queue: &mut Queue) -> i32 {
     }
 }
 
-/// How many wait; what the next one that is put gives back, how many wait then, and the first of them.
+/// The number that wait; what the next one that is put returns, how many wait then, and the first of them.
 const FULL: &str = "\
 0 -> 0 1 99\n\
 1 -> 0 2 1\n\

@@ -14,8 +14,8 @@ const CALLS: &str =
     "integer f(integer n) { return f(n) - 7; } integer g(integer n) { return f(n) - 7; } \
     default { touch_start(integer n) { } }";
 
-/// The limit, and a function, a point and values for each frame, the innermost first; what is wrong where function 0
-/// is the handler, or `-`. A script is charged 1,024, a frame 32, and an integer 8.
+/// The limit, and a function, a point and values for each frame, the innermost first; what is wrong if function 0 is
+/// the handler, or `-`. A script is charged 1,024, a frame 32, and an integer 8.
 const CASES: &str = r"# no frame
 1184: -> Frame(0)
 # one frame, with the greatest charge, and one more

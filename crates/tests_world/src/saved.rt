@@ -12,7 +12,7 @@ use lsl_text::NoMemory;
 use std::alloc::Global;
 use std::test::Fail;
 
-/// The machine saved and restored, and after how many instructions; the frames between are told.
+/// The machine saved and restored, and after how many instructions; the frames between are shown.
 pub(crate) fn moved(
     alloc: Global,
     unit: &Woven,
@@ -28,8 +28,8 @@ pub(crate) fn moved(
     unparked(alloc, unit, handler, parked)
 }
 
-/// The values of each frame. Of more than nine frames it tells how many they are, how many values the first and the
-/// last have, and how many frames have two.
+/// The values of each frame. Of more than nine frames it shows their number, the number of values of the first and the
+/// last, and how many frames have two.
 fn tell_frames(sack: &Sack, told: &mut String) -> Result<(), NoMemory> {
     let count = sack.len();
     if count < 10 {
@@ -50,8 +50,8 @@ fn with_two(sack: &Sack) -> u32 {
     count
 }
 
-/// Ticks that the handler of a touch passes, and how many instructions bring its frames back at most; the values of
-/// the frames there, the innermost first, and whether so few bring them back; and then the script.
+/// Ticks that the handler of a touch passes, and the most instructions that bring its frames back; the values of the
+/// frames there, the innermost first, and whether that many bring them back; and then the script.
 const SAVED: &str = "\
 4 52 -> | 4 2 1 | 1 10, true\n\
 integer f(integer n) { integer i; integer s; for (i = 0; i < n; ++i) s += i; return s; } \
@@ -65,7 +65,7 @@ default { touch_start(integer n) { n = 9 - f(2); } }\n\n\
 integer d(integer n) { if (n == 0) return 0; return d(n - 1) + 1; } default { touch_start(integer t) { \
 llOwnerSay((string)d(500)); } }";
 
-/// The frames of the handler of a touch behind so many ticks, and whether few instructions bring them back.
+/// The frames of the handler of a touch after this many ticks, and whether few instructions bring them back.
 fn told(alloc: Global, unit: &Woven, asked: &str) -> Result<String, NoMemory> {
     let (ticks, most) = asked.split_once(' ').unwrap_or((asked, ""));
     let most = most.parse::<u64>().unwrap_or(0);

@@ -1,10 +1,10 @@
-//! How often scripts are saved: a row has the steps of a world with one script, and the count behind them.
+//! The number of saves of scripts: a row has the steps of a world with one script, and the count after them.
 
 use crate::stepping::saves_of;
 use crate::texts::{CALLS, world_of};
 use std::test::Fail;
 
-/// A save is at the end of a turn that leaves the script in its handler, and behind each segment at which a gap ends.
+/// A save is at the end of a turn that leaves the script in its handler, and after each segment at which a gap ends.
 const OF_CALLS: &str = "touch; go 1 4; cross 1 \"B\"; run 100 -> 1
 pause 1; touch; go 1 4; cross 1 \"B\"; run 100 -> 7
 pause 2; touch; go 1 4; run 100 -> 4
@@ -34,7 +34,7 @@ pause 4; touch; go 1 3; pause 4; go 1 3 -> 2
 pause 4; touch; go 1 3; go 1 3 -> 3
 pause 1; touch; go 1 101 -> 100";
 
-/// It sleeps in its first segment, and isn't ready before the clock goes on.
+/// It sleeps in its first segment, and isn't ready before the clock advances.
 const SLEEPER: &str =
     "default { touch_start(integer n) { llSleep(1); llSleep(0); llOwnerSay(\"up\"); } }";
 

@@ -1,4 +1,4 @@
-//! Worlds whose steps are all done.
+//! Worlds with all steps done.
 ghost use Rattle.std.specs.Prelude.{◌≡◌, None, All, OnOk, length};
 ghost use Rattle.lsl_world.specs.Ranges.{IsInRange};
 ghost use Rattle.lsl_world.specs.Sizes.{IsStepOf};
@@ -16,8 +16,8 @@ use lsl_world::World;
 use lsl_world::laws::good_files_are_in_range;
 use std::alloc::{AllocError, Global};
 
-/// How often the scripts of a world were saved in all of its steps, where the world is good and has one script file,
-/// which is accepted.
+/// The number of saves of a world's scripts in all of its steps, if the world is good and has one script file, which is
+/// accepted.
 pub(crate) fn saves_of(alloc: Global, world: &str, script: &str) -> Result<Option<u64>, NoMemory> {
     good_files_are_in_range();
     let Ok(file) = read_world(alloc, world.as_bytes()) else {
@@ -30,7 +30,7 @@ pub(crate) fn saves_of(alloc: Global, world: &str, script: &str) -> Result<Optio
     Ok(Some(saves_in(alloc, &file, units)?))
 }
 
-/// The image of such a world behind its steps, and that of the world that it thaws to.
+/// The image of such a world after its steps, and that of the world that it thaws to.
 pub(crate) fn frozen_twice(
     alloc: Global,
     world: &str,
@@ -48,7 +48,7 @@ pub(crate) fn frozen_twice(
     frozen_in(alloc, &file, units, others)
 }
 
-/// The code of a script, or none where it isn't accepted.
+/// The code of a script, or none if it isn't accepted.
 fn library_of(alloc: Global, script: &str) -> Result<Library, NoMemory> {
     let mut units = Library::new(alloc);
     if let Ok(built) = build(alloc, script.as_bytes()) {

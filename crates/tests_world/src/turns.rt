@@ -1,4 +1,4 @@
-//! A script that is taken by hand from step to step: what it does, and its parts where it rests.
+//! A script that is taken by hand from step to step: what it does, and its parts at rest.
 
 ghost use Rattle.std.specs.Prelude.{◌≡◌, ◌≤◌, false, IfOk};
 ghost use Rattle.lsl_code.specs.Weaves.{Weaves};
@@ -15,7 +15,7 @@ use lsl_text::NoMemory;
 use std::alloc::Global;
 use std::process::Abort;
 
-/// A script of this text does these steps, and what is told of each and its parts behind it are as its line says.
+/// A script of this text does these steps. The result of each and the script's parts after it are as its line says.
 pub(crate) fn plays(
     rt: &impl Abort,
     alloc: Global,
@@ -35,9 +35,8 @@ pub(crate) fn plays(
     Ok(())
 }
 
-/// The script after a step: `touches N` posts so many touches, `ring` a timer event, `go C` is one segment at this
-/// reading of the clock, `run C` segments at it while the script is ready, and `frames N` so many, with the frames
-/// then.
+/// The script after a step: `touches N` posts N touches, `ring` a timer event, `go C` is one segment at this reading of
+/// the clock, `run C` segments at it while the script is ready, and `frames N` N of them, with the frames then.
 fn stepped(
     alloc: Global,
     unit: &Woven,
@@ -60,7 +59,7 @@ fn stepped(
     }
 }
 
-/// So many segments, and then the saved frames are told.
+/// Runs this many segments, and then shows the saved frames.
 fn framed(
     alloc: Global,
     unit: &Woven,
@@ -84,7 +83,7 @@ fn tell_rest(rest: &Rest, told: &mut String) -> Result<(), NoMemory> {
     }
 }
 
-/// Touches are posted, numbered from 1; the last one's answer is told.
+/// Posts touches, numbered from 1, and shows the last one's answer.
 fn touched(
     alloc: Global,
     unit: &Woven,
@@ -103,7 +102,7 @@ fn touched(
     Ok(script)
 }
 
-/// An event is posted.
+/// Posts an event.
 fn posted(
     alloc: Global,
     unit: &Woven,
@@ -125,7 +124,7 @@ fn posted(
     Ok(script)
 }
 
-/// Segments of the script while it is ready, at most so many; the last one is told.
+/// Runs segments of the script while it is ready, at most this many, and shows the last one.
 fn segments(
     alloc: Global,
     unit: &Woven,
@@ -150,9 +149,9 @@ fn segments(
     Ok(script)
 }
 
-/// Tells a script's state, the one that it is leaving for, how many events wait, the number of its next listen and how
-/// many stand, its timer's period and due time, when it wakes, how it rests, and its first global if that is an
-/// integer.
+/// Shows a script's state, the one that it is leaving for, the number of events that wait, the number of its next
+/// listen and of its listens, its timer's period and due time, when it wakes, how it rests, and its first global if
+/// that is an integer.
 fn tell_parts(script: &Script, told: &mut String) -> Result<(), NoMemory> {
     let parts = script.parts();
     write!(

@@ -1,5 +1,5 @@
-//! Notes as bytes: their bytes as they were made outside, each prefix of them, each byte raised, and fields that can't
-//! be.
+//! Notes as bytes: their bytes as they were written elsewhere, each prefix of them, each byte raised, and fields that
+//! can't be.
 
 use crate::shown::Shown;
 use crate::words::{byte, parted, short};
@@ -71,7 +71,7 @@ fn tell_written(told: &mut Shown, note: &Note, bytes: &[u8]) -> Result<(), Alloc
     Ok(())
 }
 
-/// The bytes of a note of this kind with a parcel of so many bytes.
+/// The bytes of a note of this kind with a parcel of this many bytes.
 fn made(alloc: Global, kind: &str, count: usize) -> Result<Vec<u8>, AllocError> {
     let mut parcel = Vec::new(alloc);
     for i in 0..count {
@@ -104,7 +104,7 @@ fn length(told: &mut Shown, asked: &str) -> Result<(), AllocError> {
     Ok(())
 }
 
-/// What is read of so many bytes of an offer of 238.
+/// What is read of the first bytes of an offer of 238.
 fn prefix(told: &mut Shown, count: &str) -> Result<(), AllocError> {
     let bytes = made(told.alloc(), "offer", 238)?;
     let end = short(count).min(bytes.len());

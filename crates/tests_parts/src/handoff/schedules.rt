@@ -1,4 +1,4 @@
-//! Each schedule of one crossing up to so many events: sends that are repeated, notes that are lost, late or come
+//! Each schedule of one crossing up to a number of events: sends that are repeated, notes that are lost, late or come
 //! twice.
 
 use crate::shown::Shown;
@@ -13,7 +13,7 @@ const EVENTS: usize = 6;
 /// there is one more, since one note more may have been sent.
 const CHOICES: usize = 3;
 
-/// So many schedules there are.
+/// The number of schedules.
 const SCHEDULES: usize = 3 * 4 * 5 * 6 * 7 * 8;
 
 /// A copy of a note.
@@ -83,7 +83,7 @@ fn happen(field: &mut Field, sent: &[Note], choice: usize) -> Result<Option<Note
     }
 }
 
-/// Where the object is: one region where it is live and no other, or none and it is on its way.
+/// Where the object is: one region where it is live and no other, or none if it is on its way.
 fn place(field: &mut Field) -> Result<&'static str, AllocError> {
     let first = is_live(field, 1);
     let second = is_live(field, 2);
@@ -116,8 +116,8 @@ pub fn tell(told: &mut Shown, events: &str) -> Result<(), AllocError> {
     }
 }
 
-/// Tells where the object is after each event of a schedule: the regions and `-` where it is on its way, and `!` where
-/// it is in no one place.
+/// Prints where the object is after each event of a schedule: the regions and `-` while it is on its way, and `!` if it
+/// is in no one place.
 fn tell_places(told: &mut Shown, schedule: usize) -> Result<(), AllocError> {
     let mut sent = Vec::new(told.alloc());
     let mut field = departed(told.alloc(), &mut sent)?;

@@ -1,5 +1,5 @@
-//! The lines of entries. In rows `~` stands between an entry's parts, `^` is a line feed, `$` a carriage return and
-//! `%` a tab.
+//! The lines of entries. In rows `~` separates an entry's parts, `^` is a line feed, `$` a carriage return and `%` a
+//! tab.
 
 use crate::shown::Shown;
 use crate::words::{long, number, parted, signed};

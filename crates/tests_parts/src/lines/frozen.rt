@@ -63,7 +63,7 @@ fn tell_taken(
     Ok(())
 }
 
-/// Every byte, written after a line that is no text and read again.
+/// Every byte, written after a line that isn't text and read again.
 fn every(told: &mut Shown) -> Result<(), AllocError> {
     let mut bytes = Vec::new(told.alloc());
     for byte in 0..=255u8 {

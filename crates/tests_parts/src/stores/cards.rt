@@ -35,7 +35,7 @@ fn bytes_of(alloc: Global, word: &str) -> Result<Vec<u8>, AllocError> {
     Ok(bytes)
 }
 
-/// The byte that a letter after a backslash stands for.
+/// The byte that a letter after a backslash means.
 fn meant(letter: u8) -> u8 {
     match letter {
         b'n' => b'\n',
@@ -54,7 +54,7 @@ fn lines(told: &mut Shown, word: &str) -> Result<(), AllocError> {
     }
 }
 
-/// A notecard that was read. Where none was, that is told.
+/// A notecard that was read. If none was, that is shown.
 fn card_of(told: &mut Shown, read: ReadCard) -> Option<Card> {
     match read {
         Ok(card) => Some(card),
@@ -83,7 +83,8 @@ fn cards_of(alloc: Global, card: Card) -> Result<Cards, AllocError> {
     Ok(cards)
 }
 
-/// What is told of each line, from 0 to the first after the last, with `/` between, and `end` for its three feeds.
+/// What a script receives of each line, from 0 to the first after the last, with `/` between, and `end` for its three
+/// feeds.
 fn tell_lines(told: &mut Shown, card: Card) -> Result<(), AllocError> {
     let cards = cards_of(told.alloc(), card)?;
     let name = text(told.alloc(), "n")?;
@@ -109,7 +110,7 @@ fn tell_line(told: &mut Shown, line: Text) {
     told.add("/");
 }
 
-/// How many lines a notecard of so many bytes has.
+/// The number of lines of a notecard of this many bytes.
 fn long(told: &mut Shown, word: &str) -> Result<(), AllocError> {
     let bytes = repeated(told.alloc(), "a", number(word))?;
     let read = read_card(told.alloc(), bytes.as_bytes());
@@ -120,7 +121,7 @@ fn long(told: &mut Shown, word: &str) -> Result<(), AllocError> {
     Ok(())
 }
 
-/// How many bytes are told of a line of so many characters: `COUNT CHARACTER`.
+/// The number of bytes that a script receives of a line of characters: `COUNT CHARACTER`.
 fn cut(told: &mut Shown, asked: &str) -> Result<(), AllocError> {
     let (count, character) = parted(asked, " ");
     let line = repeated(told.alloc(), character, number(count))?;
@@ -145,7 +146,7 @@ fn tell_first_length(told: &mut Shown, cards: &Cards, name: &Text) -> Result<(),
     Ok(())
 }
 
-/// The numbers of cards that are sought among those that there are: `PRIM NAME, .. : PRIM NAME, ..`.
+/// The numbers of cards that are sought among those that there are: `PRIM NAME, ... : PRIM NAME, ...`.
 fn found(told: &mut Shown, asked: &str) -> Result<(), AllocError> {
     let (there, sought) = parted(asked, " : ");
     let cards = named_cards(told.alloc(), there)?;
@@ -183,7 +184,7 @@ fn add_all(alloc: Global, cards: &mut Cards, notes: &str) -> Result<(), AllocErr
     Ok(())
 }
 
-/// Adds a notecard, where there is room.
+/// Adds a notecard, if there is room.
 fn add(alloc: Global, cards: &mut Cards, prim: u32, name: Text) -> Result<(), AllocError> {
     match read_card(alloc, b"x") {
         Ok(card) if cards.len() < 256 => cards.add(prim, name, card),
@@ -191,7 +192,7 @@ fn add(alloc: Global, cards: &mut Cards, prim: u32, name: Text) -> Result<(), Al
     }
 }
 
-/// The key of a query: `SCRIPT CARD LINE`, where a line that is no number asks for the count.
+/// The key of a query: `SCRIPT CARD LINE`, a line that isn't a number asks for the count.
 fn asked(told: &mut Shown, asked: &str) -> Result<(), AllocError> {
     let (script, rest) = parted(asked, " ");
     let (card, line) = parted(rest, " ");

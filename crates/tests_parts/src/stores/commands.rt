@@ -50,7 +50,7 @@ fn write(told: &mut Shown, store: &mut Store, asked: &str) -> Result<(), AllocEr
     write_pair(told, store, name, value)
 }
 
-/// A write of a name with so many letters.
+/// A write of a name with this many letters.
 fn fill(told: &mut Shown, store: &mut Store, asked: &str) -> Result<(), AllocError> {
     let (name, count) = parted(asked, "=");
     let value = repeated(told.alloc(), "v", number(count))?;

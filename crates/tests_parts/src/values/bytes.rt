@@ -1,4 +1,4 @@
-//! Fields as bytes: what is appended, what is read back, and what is no field.
+//! Fields as bytes: what is appended, what is read back, and what isn't a field.
 
 use crate::shown::Shown;
 use crate::values::words;
@@ -141,7 +141,7 @@ fn numbered(alloc: Global, numbers: &str) -> Result<Vec<u8>, AllocError> {
     Ok(bytes)
 }
 
-/// Where a text of so many letters ends, and whether its bytes come back.
+/// Where a text of this many letters ends, and whether its bytes come back.
 fn longest_text(told: &mut Shown, count: u32) -> Result<(), AllocError> {
     let mut bytes = Vec::new(told.alloc());
     push_u32(&mut bytes, count)?;
@@ -159,7 +159,7 @@ fn longest_text(told: &mut Shown, count: u32) -> Result<(), AllocError> {
     Ok(())
 }
 
-/// Where a list of so many empty strings ends, and whether its bytes come back.
+/// Where a list of this many empty strings ends, and whether its bytes come back.
 fn longest_list(told: &mut Shown, count: u32) -> Result<(), AllocError> {
     let mut bytes = Vec::new(told.alloc());
     push_u8(&mut bytes, 7)?;

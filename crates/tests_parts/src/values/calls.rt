@@ -1,4 +1,4 @@
-//! What pure calls give. A bar stands between arguments.
+//! What pure calls give. A bar separates arguments.
 
 use crate::shown::Shown;
 use crate::values::words::{tell_answer, text, values};
@@ -32,7 +32,7 @@ fn given(told: &mut Shown, id: BuiltinId, args: &str) -> Result<(), AllocError> 
     Ok(())
 }
 
-/// How much the text is charged that comes of one inserted before another.
+/// The charge of a text that is inserted into another.
 fn charged(told: &mut Shown, args: &str) -> Result<(), AllocError> {
     let args = values(told.alloc(), args)?;
     match answer(told.alloc(), BuiltinId::InsertString, args) {

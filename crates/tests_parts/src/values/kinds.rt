@@ -85,7 +85,7 @@ fn kind(told: &mut Shown, asked: &str) {
     told.add(letter_or_dash(operator(sign).result_kind(left, right)));
 }
 
-/// Whether the first of two kinds is cast to the second where nobody writes it.
+/// Whether the first of two kinds is cast to the second implicitly.
 fn implicitly(told: &mut Shown, kinds: (Kind, Kind)) {
     let (from, to) = kinds;
     told.put(&from.casts_implicitly_to(to));

@@ -24,8 +24,8 @@ struct Lists {
     kept: Items,
 }
 
-/// A list and its copy do these steps: `push` and `front` add an element, `copy` takes a copy, `append` puts it
-/// after the list, and `keep` takes a copy for the end. All three are told.
+/// A list and its copy do these steps: `push` and `front` add an element, `copy` takes a copy, `append` puts it after
+/// the list, and `keep` takes a copy for the end. All three are shown.
 fn list(told: &mut Shown, steps: &str) -> Result<(), AllocError> {
     let alloc = told.alloc();
     let mut lists = Lists {

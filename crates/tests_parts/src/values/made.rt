@@ -1,4 +1,4 @@
-//! Worlds that are made by number: their texts by digest, as another maker gave them.
+//! Generated worlds: their texts by digest, as another generator gave them.
 
 use crate::shown::Shown;
 use crate::words::number;

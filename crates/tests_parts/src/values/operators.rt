@@ -72,7 +72,7 @@ fn before(told: &mut Shown, operand: &str) {
     told.put(&unary(op, signed(rest)));
 }
 
-/// What becomes of a value that is cast: `KIND VALUE`.
+/// The result of a cast of a value: `KIND VALUE`.
 fn cast_to(told: &mut Shown, operand: &str) -> Result<(), AllocError> {
     let (letter, rest) = parted(operand, " ");
     let value = value(told.alloc(), rest)?;

@@ -28,7 +28,7 @@ fn numbers(alloc: Global, words: &str) -> Result<Vec<u64>, AllocError> {
     Ok(numbers)
 }
 
-/// A file `a` of so many letters, a file `b`, and another one of the name `a`.
+/// A file `a` of this many letters, a file `b`, and another one of the name `a`.
 fn files(alloc: Global, size: usize) -> Result<Vec<StoredFile>, AllocError> {
     let mut files = Vec::new(alloc);
     add_files(alloc, &mut files, size)?;
@@ -43,7 +43,7 @@ fn add_files(alloc: Global, files: &mut Vec<StoredFile>, size: usize) -> Result<
     Ok(())
 }
 
-/// Files are read, and then their faults are told: `SIZE FAILING: NAME LIMIT, NAME LIMIT`.
+/// Reads files, and then shows their faults: `SIZE FAILING: NAME LIMIT, NAME LIMIT`.
 fn shelf(told: &mut Shown, asked: &str) -> Result<(), AllocError> {
     let alloc = told.alloc();
     let (made, reads) = parted(asked, ": ");
@@ -69,7 +69,7 @@ fn tell_faults(told: &mut Shown, shelf: &MemoryShelf) {
     told.put(&shelf.fault_count("c"));
 }
 
-/// What is found of a file to a limit, or what a single read into no room answers: `NAME LIMIT` or `NAME @PLACE`.
+/// What is found of a file to a limit, or the result of a single read into no room: `NAME LIMIT` or `NAME @PLACE`.
 fn tell_read(told: &mut Shown, shelf: &mut MemoryShelf, read: &str) -> Result<(), AllocError> {
     let (name, limit) = parted(read, " ");
     if let Some(place) = limit.strip_prefix('@') {
@@ -85,7 +85,7 @@ fn tell_read(told: &mut Shown, shelf: &mut MemoryShelf, read: &str) -> Result<()
     Ok(())
 }
 
-/// How many bytes were found, and the first of them.
+/// Shows how many bytes were found, and the first of them.
 fn tell_found(told: &mut Shown, found: &[u8]) {
     let text = std::str::from_utf8(found).unwrap_or("no text");
     let (prefix, _rest) = text.split_at_checked(6).unwrap_or((text, ""));
@@ -135,7 +135,7 @@ fn tell_sunk(told: &mut Shown, sink: &MemorySink) {
 }
 
 /// What each carrying brings back, then what each trip keeps, and how many calls failed: `FAILING: TEXT,TEXT`. After
-/// the calls that fail may stand `| damages | replacements`.
+/// the calls that fail there may be `| damages | replacements`.
 fn link(told: &mut Shown, asked: &str) -> Result<(), AllocError> {
     let (made, pieces) = parted(asked, ": ");
     let mut link = link_of(told.alloc(), made)?;

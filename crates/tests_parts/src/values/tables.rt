@@ -1,4 +1,5 @@
-//! That the tables are the language's, and that each name leads to its row. The rows were typed apart from the program.
+//! That the tables are the language's, and that each name leads to its row. The rows were typed independently of the
+//! program.
 
 use crate::shown::Shown;
 use crate::values::words::letter;
@@ -89,7 +90,7 @@ fn tell_row(told: &mut Shown, id: BuiltinId) {
     }
 }
 
-/// Tells what is found by a call's name; whether anything is by another one.
+/// Shows what is found by a call's name; whether anything is by another one.
 fn tell_builtin(told: &mut Shown, name: &str, changed: &str) -> bool {
     if let Some(id) = find(name) {
         tell_row(told, id);
@@ -97,7 +98,7 @@ fn tell_builtin(told: &mut Shown, name: &str, changed: &str) -> bool {
     find(changed).is_some()
 }
 
-/// Tells what is found by an event's name; whether anything is by another one.
+/// Shows what is found by an event's name; whether anything is by another one.
 fn tell_event(told: &mut Shown, name: &str, changed: &str) -> bool {
     if let Some(id) = event(name) {
         told.add(event_name(id));
@@ -110,7 +111,7 @@ fn tell_event(told: &mut Shown, name: &str, changed: &str) -> bool {
     event(changed).is_some()
 }
 
-/// Tells what is found by a constant's name; whether anything is by another one.
+/// Shows what is found by a constant's name; whether anything is by another one.
 fn tell_constant(told: &mut Shown, name: &str, changed: &str) -> bool {
     if let Some(id) = constant(name) {
         told.add(constant_name(id));

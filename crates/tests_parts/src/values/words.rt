@@ -1,5 +1,5 @@
-//! Values as words. A letter stands for the kind, and the value after it: `I` an integer, `S` a string, `K` a key,
-//! `L` a list. A slash stands between a list's elements: `n` an integer, `t` a string, `y` a key.
+//! Values as words. A letter gives the kind, and the value follows it: `I` an integer, `S` a string, `K` a key, `L` a
+//! list. A slash separates a list's elements: `n` an integer, `t` a string, `y` a key.
 
 use crate::shown::Shown;
 use crate::words::{parted, short, signed};
@@ -27,7 +27,7 @@ fn pictured(meant: char) -> char {
     }
 }
 
-/// The characters that a word stands for. One that begins with `%` has so many letters `a`, and what is after a blank.
+/// The characters that a word means. One that begins with `%` has that many letters `a`, and what is after a blank.
 pub fn characters(alloc: Global, word: &str) -> Result<String, AllocError> {
     match word.strip_prefix('%') {
         Some(letters) => repeated(alloc, letters),
@@ -116,7 +116,7 @@ pub fn value(alloc: Global, word: &str) -> Result<Value, AllocError> {
     }
 }
 
-/// Values between which a bar stands.
+/// Values with a bar between them.
 pub fn values(alloc: Global, words: &str) -> Result<Values, AllocError> {
     let mut values = Values::new(alloc);
     add_values(alloc, &mut values, words)?;
@@ -169,7 +169,7 @@ pub fn tell_value(told: &mut Shown, value: &Value) {
     }
 }
 
-/// Tells a value that nobody else needs, or notes that memory ended.
+/// Shows a value that nothing else needs, or notes that memory ran out.
 pub fn tell_made(told: &mut Shown, made: Result<Value, AllocError>) {
     match made {
         Ok(value) => tell_value(told, &value),
@@ -177,7 +177,7 @@ pub fn tell_made(told: &mut Shown, made: Result<Value, AllocError>) {
     }
 }
 
-/// Tells a value that nobody else needs, or why there is none.
+/// Shows a value that nothing else needs, or why there is none.
 pub fn tell_answer<F: std::fmt::Debug + Drop>(told: &mut Shown, answer: Result<Value, F>) {
     match answer {
         Ok(value) => tell_value(told, &value),
@@ -205,7 +205,7 @@ pub fn letter(kind: Kind) -> &'static str {
     }
 }
 
-/// The letter of a kind, and a dash where there is none.
+/// The letter of a kind, and a dash if there is none.
 pub fn letter_or_dash(kind: Option<Kind>) -> &'static str {
     match kind {
         Some(kind) => letter(kind),

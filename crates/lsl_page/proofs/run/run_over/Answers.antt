@@ -11,7 +11,7 @@ use Rattle.lsl_page.proofs.Endings.{ended-of, same-mark}
 use Rattle.lsl_page.proofs.Fits.{words-fit}
 use Rattle.lsl_page.proofs.run.run_over.Goals as goal
 
--- no command of two words tells any world from another
+-- a command of two words doesn't depend on the frozen world
 anywhere : World
 anywhere = start (rules_of []) once_world []
 

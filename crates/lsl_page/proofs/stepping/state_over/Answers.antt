@@ -10,7 +10,7 @@ use Rattle.lsl_page.proofs.Endings.{ended-of, same-mark}
 use Rattle.lsl_page.proofs.Fits.{state-fits}
 use Rattle.lsl_page.proofs.stepping.state_over.Goals as goal
 
--- a state tells no world from another
+-- a state doesn't depend on the frozen world
 anywhere : World
 anywhere = start (rules_of []) once_world []
 

@@ -12,7 +12,7 @@ use Rattle.lsl_top.specs.declared.writing.Trouble.{Trouble}
 use Rattle.lsl_top.proofs.Parts.{parts_left}
 use Rattle.lsl_top.proofs.report.write_step.Given as goal
 
--- however what is left of the step goes, so the step goes
+-- however what is left of the step goes, the step goes
 abbrev pub invariant-parts : goal.invariant-parts
 invariant-parts g l =
     record {

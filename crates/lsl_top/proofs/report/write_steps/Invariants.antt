@@ -9,7 +9,7 @@ use Rattle.lsl_top.specs.Ports.{Log, Wire, log, wire}
 use Rattle.lsl_top.specs.declared.writing.Trouble.{Trouble}
 use Rattle.lsl_top.proofs.report.write_steps.Given as goal
 
--- however the steps go that are left, so all of them go
+-- however the steps that are left go, all of them go
 abbrev pub invariant-loop-step : goal.invariant-loop-step
 invariant-loop-step g l =
     record {
