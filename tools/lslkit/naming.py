@@ -56,4 +56,5 @@ class Names:
 
     def uncalled(self):
         """The functions that nothing calls but they themselves."""
-        return [it for it in self.script.functions if not any(name == it.text != by for name, by in self.called)]
+        called = {name for name, by in self.called if name != by}
+        return [it for it in self.script.functions if it.text not in called]
